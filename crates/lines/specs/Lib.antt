@@ -1,0 +1,5 @@
+pub mod Split
+pub mod Numerals
+pub mod Input
+pub mod Openings
+pub mod Replies
