@@ -1,0 +1,5 @@
+pub mod Sums
+pub mod Wholes
+pub mod CountReach
+pub mod BestReach
+pub mod Refusing

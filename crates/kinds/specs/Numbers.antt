@@ -56,7 +56,7 @@ module _ {K : Type 0} (n : Numbers K) where
   abbrev pub answer : n .exact .Value → Result K Fault
   answer v = cond (n .fits v) (Ok (n .write v)) (Err (fault OutOfRange))
 
-  -- a sum of at most sixteen products, each of at most three entries, fits
+  -- up to sixteen products with up to three entries each add up to a value that fits
   abbrev pub SumsOfEntryProductsFit : Type 0
   SumsOfEntryProductsFit =
       (m : ℕ) (factors : ℕ → List (n .exact .Value))

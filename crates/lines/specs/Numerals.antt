@@ -1,4 +1,4 @@
--- How numbers are written: an optional minus sign and one to six digits, without leading zeros or -0.
+-- How numbers are written: up to six digits that begin with no needless zero, and before a number other than 0 a minus sign at will.
 use mathlib.Core.Path.{_≡_}
 use mathlib.Core.Bool.{cond}
 use mathlib.Core.List.{List, [], _∷_}
@@ -9,6 +9,11 @@ use lib.ListN.{length}
 use Rattle.std.specs.Written.{decimal, signed}
 use Rattle.std.specs.declared.option.Option.{Option}
 use Rattle.std.specs.declared.option.Option.the-variants.{Some, None}
+use Rattle.std.specs.declared.result.Result.{Result}
+use Rattle.std.specs.declared.result.Result.the-variants.{Ok, Err}
+use Rattle.kinds.specs.declared.fault.Fault.{Fault}
+use Rattle.kinds.specs.declared.fault.Refusal.the-variants.{FieldForm}
+use Rattle.kinds.specs.Faults.{fault-at}
 use Rattle.lines.specs.declared.numbers.Mark.{Mark}
 use Rattle.lines.specs.declared.numbers.Mark.the-variants as mark
 use Rattle.lines.specs.declared.numbers.Reading.{Reading}
@@ -53,6 +58,14 @@ abbrev pub reading-of : List ℕ → Reading
 reading-of [] = reading.Malformed
 reading-of (b ∷ []) = cond (eqb b 45) reading.Hyphen (unsigned (magnitude-of (b ∷ [])))
 reading-of (b ∷ c ∷ bs) = cond (eqb b 45) (negative (magnitude-of (c ∷ bs))) (unsigned (magnitude-of (b ∷ c ∷ bs)))
+
+abbrev pub or-other-form : Option ℕ → ℕ → Result ℕ Fault
+or-other-form (Some n) p = Ok n
+or-other-form None p = Err (fault-at FieldForm p)
+
+-- the number without a sign in the field at a place
+abbrev pub plain-at : List ℕ → ℕ → Result ℕ Fault
+plain-at s p = or-other-form (magnitude-of s) p
 
 -- a text reads as n exactly when it is what n prints as, of at most six digits
 pub record IsNumeral (s : List ℕ) (r : Option ℕ) : Type 0 where

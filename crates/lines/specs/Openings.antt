@@ -10,45 +10,19 @@ use Rattle.std.specs.declared.result.Result.{Result}
 use Rattle.std.specs.declared.result.Result.the-variants.{Ok, Err}
 use Rattle.kinds.specs.declared.fault.Fault.{Fault}
 use Rattle.kinds.specs.declared.fault.Refusal.the-variants.{LineBounds, VerbNotServed, FieldCount, FieldForm}
-use Rattle.kinds.specs.Faults.{fault, fault-at}
+use Rattle.kinds.specs.Faults.{fault, fault-at, then}
 use Rattle.lines.specs.declared.openings.KindName.{KindName}
 use Rattle.lines.specs.declared.openings.KindName.the-variants.{Count, Best}
 use Rattle.lines.specs.declared.openings.Opening.{Opening}
-use Rattle.lines.specs.declared.openings.Verb.{Verb}
-use Rattle.lines.specs.declared.openings.Verb.the-variants.{Book, Table}
+use Rattle.lines.specs.declared.verbs.Verb.{Verb}
+use Rattle.lines.specs.declared.verbs.Verb.the-variants.{Book, Table}
 use Rattle.lines.specs.Split.{split}
-use Rattle.lines.specs.Numerals.{magnitude-of}
-
--- what follows a step that may be refused
-abbrev pub then : {A B : Type 0} → Result A Fault → (A → Result B Fault) → Result B Fault
-then (Ok a) f = f a
-then (Err e) f = Err e
-
--- the verb that a field names
-abbrev pub verb-named : List ℕ → Option Verb
-verb-named s = cond (sameBytes s (codes "book")) (Some Book) (cond (sameBytes s (codes "table")) (Some Table) None)
-
--- a line's verb is its first field
-abbrev pub verb-of : List (List ℕ) → Option Verb
-verb-of [] = None
-verb-of (v ∷ fs) = verb-named v
-
--- the fields behind the verb
-abbrev pub behind-verb : List (List ℕ) → List (List ℕ)
-behind-verb [] = []
-behind-verb (v ∷ fs) = fs
+use Rattle.lines.specs.Numerals.{plain-at}
+use Rattle.lines.specs.Verbs.{verb-of, behind-verb}
 
 -- the kind that the field at a place names
 abbrev pub kind-at : List ℕ → ℕ → Result KindName Fault
 kind-at s p = cond (sameBytes s (codes "count")) (Ok Count) (cond (sameBytes s (codes "best")) (Ok Best) (Err (fault-at FieldForm p)))
-
-abbrev pub or-other-form : Option ℕ → ℕ → Result ℕ Fault
-or-other-form (Some n) p = Ok n
-or-other-form None p = Err (fault-at FieldForm p)
-
--- the number without a sign in the field at a place
-abbrev pub plain-at : List ℕ → ℕ → Result ℕ Fault
-plain-at s p = or-other-form (magnitude-of s) p
 
 -- book,KIND,EVENTS: the fields behind the verb are counted before their forms are judged
 abbrev pub book-of : List (List ℕ) → Result Opening Fault

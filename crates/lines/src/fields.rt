@@ -1,4 +1,4 @@
-//! A line hands out its fields one after another.
+//! The fields of a line, given out in turn.
 ghost use mathlib.Core.Path.{_≡_};
 ghost use mathlib.Core.List.{[], _∷_};
 ghost use Prim.Native.Nat.{ℕ, _≤_, _<_};

@@ -4,3 +4,5 @@ pub mod input;
 pub mod numbers;
 pub mod openings;
 pub mod replies;
+pub mod statements;
+pub mod verbs;

@@ -2,7 +2,10 @@
 ghost use mathlib.Core.Path.{_≡_};
 ghost use Prim.Native.Nat.{_<_};
 ghost use Rattle.std.specs.Options.{Cases};
-ghost use Rattle.lines.specs.Numerals.{mark-of, magnitude-of, reading-of, unsigned, negative, most-magnitude, IsReading};
+ghost use Rattle.std.specs.Results.{okPart};
+ghost use Rattle.lines.specs.Numerals.{mark-of, magnitude-of, reading-of, unsigned, negative, most-magnitude, plain-at, IsNumeral, IsReading};
+use kinds::fault::Fault;
+use kinds::fault::Refusal;
 
 /// What a byte is within a number.
 #[derive(Clone, Copy)]
@@ -86,5 +89,16 @@ pub fn read_number(field: &[u8]) -> Reading
         [b'-'] => Reading::Hyphen,
         [b'-', rest @ ..] => behind_minus(magnitude(rest)),
         digits => without_sign(magnitude(digits)),
+    }
+}
+
+/// The number without a sign in the field at a place.
+pub fn plain(field: &[u8], place: usize) -> Result<usize, Fault>
+    ensures value { λ r. ⌜ r ≡ plain-at (now (field .entry)) place ⌝ }
+    ensures decimal_text { λ r. ⌜ IsNumeral (now (field .entry)) (okPart r) ⌝ }
+{
+    match magnitude(field) {
+        Some(n) => Ok(n as usize),
+        None => Err(Fault::at(Refusal::FieldForm, place)),
     }
 }

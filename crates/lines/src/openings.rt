@@ -1,22 +1,15 @@
 //! The line that opens a book.
 ghost use mathlib.Core.Path.{_≡_};
 ghost use Rattle.std.specs.Options.{mapped};
-ghost use Rattle.std.specs.shelf.Text.{sameBytes};
-ghost use Rattle.std.specs.Results.{okPart};
-ghost use Rattle.lines.specs.Numerals.{IsNumeral};
 ghost use Rattle.lines.specs.Split.{left};
-ghost use Rattle.lines.specs.Openings.{verb-of, behind-verb, kind-at, plain-at, book-of, opening-of};
+ghost use Rattle.lines.specs.Openings.{kind-at, book-of, opening-of};
 use crate::fields::Fields;
-use crate::numbers::magnitude;
+use crate::numbers::plain;
+use crate::verbs::Verb;
+use crate::verbs::is;
+use crate::verbs::take_verb;
 use kinds::fault::Fault;
 use kinds::fault::Refusal;
-
-/// The first word of a line, which says what it asks for.
-#[derive(Clone, Copy)]
-pub enum Verb {
-    Book,
-    Table,
-}
 
 /// A kind of number, as a line names it.
 #[derive(Clone, Copy)]
@@ -32,28 +25,6 @@ pub struct Opening {
     pub events: usize,
 }
 
-/// Whether two texts are the same.
-fn is(a: &[u8], b: &[u8]) -> bool
-    ensures { λ r. ⌜ r ≡ sameBytes (now (a .entry)) (now (b .entry)) ⌝ }
-{
-    a == b
-}
-
-/// Takes the verb from a line's fields, if it is one that there is.
-pub fn take_verb(fields: &mut Fields<'_>) -> Option<Verb>
-    ensures value { λ r. ⌜ r ≡ verb-of (left (now (fields .entry))) ⌝ }
-    ensures after { λ _. ⌜ left (now (fields .exit)) ≡ behind-verb (left (now (fields .entry))) ⌝ }
-{
-    let name = fields.next_field()?;
-    if is(name, b"book") {
-        Some(Verb::Book)
-    } else if is(name, b"table") {
-        Some(Verb::Table)
-    } else {
-        None
-    }
-}
-
 /// The kind that the field at a place names.
 fn kind(field: &[u8], place: usize) -> Result<KindName, Fault>
     ensures { λ r. ⌜ r ≡ kind-at (now (field .entry)) place ⌝ }
@@ -64,17 +35,6 @@ fn kind(field: &[u8], place: usize) -> Result<KindName, Fault>
         Ok(KindName::Best)
     } else {
         Err(Fault::at(Refusal::FieldForm, place))
-    }
-}
-
-/// The number without a sign in the field at a place.
-pub fn plain(field: &[u8], place: usize) -> Result<usize, Fault>
-    ensures value { λ r. ⌜ r ≡ plain-at (now (field .entry)) place ⌝ }
-    ensures decimal_text { λ r. ⌜ IsNumeral (now (field .entry)) (okPart r) ⌝ }
-{
-    match magnitude(field) {
-        Some(n) => Ok(n as usize),
-        None => Err(Fault::at(Refusal::FieldForm, place)),
     }
 }
 

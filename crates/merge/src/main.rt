@@ -1,13 +1,25 @@
 //! merge reads lines from standard input and answers each: a line opens a book, and the lines after it work on that book.
 mod opening;
+mod serving;
 
-use kinds::fault::Fault;
-use kinds::fault::Refusal;
+use book::book::Book;
+use kinds::best::Best;
+use kinds::best::BestKind;
+use kinds::count::Count;
+use kinds::count::CountKind;
+use kinds::kind::Kind;
 use lines::input::LineBuffer;
+use lines::openings::KindName;
 use lines::replies::Answer;
 use lines::replies::AnswerDisplay;
 use lines::replies::Reply;
+use lines::statements::BestWritten;
+use lines::statements::CountWritten;
+use lines::statements::MOST_NUMBERS;
+use lines::statements::Written;
+use opening::Opened;
 use opening::open_by;
+use serving::answer_line;
 use std::io;
 use std::io::BufRead;
 use std::io::BufReader;
@@ -15,6 +27,10 @@ use std::io::BufWriter;
 use std::io::Stdin;
 use std::io::Stdout;
 use std::io::Write;
+use tables::shape::Events;
+
+/// A book's shelf has so many numbers.
+const SHELF_NUMBERS: usize = 4096;
 
 /// Standard input line by line, and the answers to standard output.
 #[derive(Drop)]
@@ -66,19 +82,39 @@ impl Exchange {
     }
 }
 
-/// Answers the lines behind the one that opened a book.
-fn serve(exchange: &mut Exchange) -> io::Result<()> {
+/// Answers the lines behind the one that opened a book, on a shelf and with a run that are lent for it.
+fn serve<K: Kind + Written>(
+    exchange: &mut Exchange,
+    events: Events,
+    shelf: &mut [K],
+    run: &mut [K],
+) -> io::Result<()> {
+    let mut book = Book::open(events, shelf);
     for _ in 0..u64::MAX {
         if !exchange.next_line()? {
             break;
         }
-        let refusal = match exchange.line.text() {
-            Some(_) => Refusal::VerbNotServed,
-            None => Refusal::LineBounds,
-        };
-        exchange.answer(Reply::Refused(Fault::of(refusal)))?;
+        let reply = answer_line(&mut book, run, exchange.line.text());
+        exchange.answer(reply)?;
     }
     Ok(())
+}
+
+/// Opens a book and answers the lines behind it.
+fn open_and_serve(rt: &LibcRuntime, exchange: &mut Exchange, opened: Opened) -> io::Result<()> {
+    exchange.answer(Reply::Open)?;
+    match opened.kind {
+        KindName::Count => {
+            let mut shelf = vec![in rt.alloc(); Count::zero(); SHELF_NUMBERS]?;
+            let mut run = vec![in rt.alloc(); Count::zero(); MOST_NUMBERS]?;
+            serve(exchange, opened.events, shelf.as_mut_slice(), run.as_mut_slice())
+        }
+        KindName::Best => {
+            let mut shelf = vec![in rt.alloc(); Best::zero(); SHELF_NUMBERS]?;
+            let mut run = vec![in rt.alloc(); Best::zero(); MOST_NUMBERS]?;
+            serve(exchange, opened.events, shelf.as_mut_slice(), run.as_mut_slice())
+        }
+    }
 }
 
 fn main(rt: LibcRuntime) -> io::Result<()> {
@@ -88,10 +124,7 @@ fn main(rt: LibcRuntime) -> io::Result<()> {
             break;
         }
         match open_by(exchange.line.text()) {
-            Ok(_) => {
-                exchange.answer(Reply::Open)?;
-                serve(&mut exchange)?;
-            }
+            Ok(opened) => open_and_serve(&rt, &mut exchange, opened)?,
             Err(fault) => exchange.answer(Reply::Refused(fault))?,
         }
     }

@@ -3,7 +3,7 @@ use mathlib.Core.Logic.{inl, inr}
 use mathlib.Core.Path.{_≡_, refl, sym, ap, subst, _∙_}
 use mathlib.Core.Bool.{Bool, true, false, cond}
 use mathlib.Core.List.{List, [], _∷_}
-use Prim.Native.Nat.{ℕ, zero, suc, _+_, _-_, _≤_, _<_}
+use Prim.Native.Nat.{ℕ, suc, _+_, _-_, _≤_, _<_}
 use native.Mathlib.Omega.{arith}
 use lib.ListN.{length, getD, drop}
 use Rattle.std.specs.Options.{Cases}
@@ -65,9 +65,9 @@ module _ {K : Type 0} (N : Numbers K) where
     opened = at-drop-more (first-other N (i + 1)) run i x inside ∙ ap (λ y. cond (is-entry N y) (first-other N (i + 1 + 1) (drop (i + 1) run)) (Some (i + 1))) (sym is)
 
     -- an entry is passed over
-    pub first-later : is-entry N x ≡ true → first-other N (i + 1 + 1) (drop (i + 1) run) ≡ first-other N (i + 1) (drop i run)
-    first-later e = sym (opened ∙ cond-true _ _ _ e)
+    pub first-later : true ≡ is-entry N x → first-other N (i + 1 + 1) (drop (i + 1) run) ≡ first-other N (i + 1) (drop i run)
+    first-later e = sym (opened ∙ cond-true _ _ _ (sym e))
 
     -- another number is found
-    pub first-here : is-entry N x ≡ false → first-other N (i + 1) (drop i run) ≡ Some (i + 1)
-    first-here e = opened ∙ cond-false _ _ _ e
+    pub first-here : false ≡ is-entry N x → Some (i + 1) ≡ first-other N (i + 1) (drop i run)
+    first-here e = sym (opened ∙ cond-false _ _ _ (sym e))

@@ -1,6 +1,6 @@
 -- Rows of sizes that pass the test keep the rule, and a table's size is bounded.
 use mathlib.Core.Path.{_≡_, _∙_, subst, sym, ap}
-use mathlib.Core.Bool.{Bool, true, false, _&&_}
+use mathlib.Core.Bool.{Bool, true}
 use mathlib.Core.List.{List, [], _∷_}
 use Prim.Native.Nat.{ℕ, zero, suc, _+_, _-_, _*_, _<_, _≤_}
 use native.Mathlib.Nat.{add-zero, zero-add, add-suc, suc-add, le-of-suc-le-suc, not-suc-le-zero, mul-le-mul}

@@ -1,5 +1,5 @@
 -- How many events and states a table may have, and how many numbers that makes.
-use mathlib.Core.Bool.{Bool, cond, false}
+use mathlib.Core.Bool.{Bool, cond, _&&_}
 use Prim.Native.Nat.{ℕ, _+_, _*_}
 use lib.Dec.{leb}
 use Rattle.std.specs.declared.result.Result.{Result}
@@ -19,7 +19,7 @@ most-states = 8
 
 -- whether n is 1 to a limit
 abbrev pub one-to : ℕ → ℕ → Bool
-one-to most n = cond (leb 1 n) (leb n most) false
+one-to most n = leb 1 n && leb n most
 
 -- n where it is 1 to a limit, else a refusal
 abbrev pub passed-to : ℕ → Refusal → ℕ → Result ℕ Fault

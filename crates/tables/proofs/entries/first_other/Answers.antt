@@ -1,4 +1,4 @@
-use mathlib.Core.Path.{_≡_, sym, ap, _∙_}
+use mathlib.Core.Path.{_≡_, sym, _∙_}
 use Prim.Native.Nat.{_+_}
 use Rattle.std.specs.declared.option.Option.the-variants.{Some, None}
 use Rattle.std.proofs.shelf.Lists.{at-drop-all}
@@ -11,12 +11,12 @@ returns-then-not-is-entry g c =
     let N = g .K·Kind .numbers in
     let run = c .args .run .now in
     let i = c .loop-i .i in
-    let value : Some (i + 1) ≡ first-other N 1 run = sym (first-here N run i (c .index-run-i .result) (c .loop-i-test .taken) (c .index-run-i .is) (sym (c .if-not-is-entry .ensures tt))) ∙ c .loop-i .inv in
+    let value : Some (i + 1) ≡ first-other N 1 run = first-here N run i (c .index-run-i .result) (c .loop-i-test .taken) (c .index-run-i .is) (c .if-not-is-entry .ensures tt) ∙ c .loop-i .inv in
     record { value = value; first = first-is-first N run (Some (i + 1)) value }
 
 pub loop-i-again : need.loop-i-again
 loop-i-again g c =
-    first-later (g .K·Kind .numbers) (c .args .run .now) (c .loop-i .i) (c .index-run-i .result) (c .loop-i-test .taken) (c .index-run-i .is) (sym (c .if-not-is-entry .ensures tt)) ∙ c .loop-i .inv
+    first-later (g .K·Kind .numbers) (c .args .run .now) (c .loop-i .i) (c .index-run-i .result) (c .loop-i-test .taken) (c .index-run-i .is) (c .if-not-is-entry .ensures tt) ∙ c .loop-i .inv
 
 pub returns : need.returns
 returns g c =

@@ -1,0 +1,3 @@
+//! A book: a ledger, and a lent shelf that holds the numbers of its tables.
+pub mod book;
+mod shelf;

@@ -1,0 +1,134 @@
+//! The lines on an open book, and the numbers of a line.
+ghost use mathlib.Core.Path.{_≡_};
+ghost use Prim.Native.Nat.{_+_, _≤_, _<_};
+ghost use lib.Dec.{ltb};
+ghost use lib.ListN.{length, take};
+ghost use Rattle.std.specs.Options.{mapped};
+ghost use Rattle.std.specs.Results.{Cases};
+ghost use Rattle.std.specs.declared.option.Option.{Option};
+ghost use Rattle.std.specs.declared.result.Result.the-variants.{Ok, Err};
+ghost use Rattle.lines.specs.declared.numbers.Reading.{Reading as Read};
+ghost use Rattle.lines.specs.Split.{left};
+ghost use Rattle.lines.specs.Statements.{most-numbers, count-meant, best-meant, front, numbers-at, overlaid, table-of, table-run, statement-of, statement-run, InRun, Reads};
+use crate::fields::Fields;
+use crate::numbers::Reading;
+use crate::numbers::plain;
+use crate::numbers::read_number;
+use crate::verbs::Verb;
+use crate::verbs::take_verb;
+use kinds::best::Best;
+use kinds::count::Count;
+use kinds::fault::Fault;
+use kinds::fault::Refusal;
+
+/// A line has at most so many numbers.
+pub const MOST_NUMBERS: usize = 1809;
+
+/// A number that a line can write.
+pub trait Written: Copy {
+    /// The number that a field means, if it means one.
+    ghost meant: { Read → Option Self };
+
+    /// The number of a field that reads so.
+    fn from_reading(reading: Reading) -> Option<Self>
+        ensures { λ r. ⌜ r ≡ meant reading ⌝ };
+}
+
+pub impl Written for Count as CountWritten {
+    ghost meant = { count-meant };
+
+    fn from_reading(reading: Reading) -> Option<Count> {
+        match reading {
+            Reading::Number(z) => Some(Count(z)),
+            Reading::Hyphen | Reading::Malformed => None,
+        }
+    }
+}
+
+pub impl Written for Best as BestWritten {
+    ghost meant = { best-meant };
+
+    fn from_reading(reading: Reading) -> Option<Best> {
+        match reading {
+            Reading::Number(z) => Some(Best(Some(z))),
+            Reading::Hyphen => Some(Best(None)),
+            Reading::Malformed => None,
+        }
+    }
+}
+
+/// What a line asks of an open book: to enter a table with so many states and so many numbers, which stand at the front
+/// of the run that they were read into.
+#[derive(Clone, Copy)]
+pub struct Statement {
+    pub states: usize,
+    pub count: usize,
+}
+
+/// Whether more than so many fields are left.
+fn more_than(mut fields: Fields<'_>, most: usize) -> bool
+    ensures { λ r. ⌜ r ≡ ltb most (length (left (fields .entry))) ⌝ }
+{
+    let mut n = 0;
+    while let Some(_) = fields.next_field() {
+        if n == most {
+            return true;
+        }
+        n += 1;
+    }
+    false
+}
+
+/// Reads the fields that are left as numbers to the front of the run; the first of them stands at the place `first` of the line.
+fn read_run<K: Written>(mut fields: Fields<'_>, first: usize, run: &mut [K]) -> Result<usize, Fault>
+    requires room { ⌜ length (left fields) ≤ length (now run) ⌝ }
+    requires few { ⌜ length (left fields) ≤ most-numbers ⌝ }
+    requires small { ⌜ first < 16 ⌝ }
+    ensures value { λ r. ⌜ Cases r (λ n. numbers-at (K·Written .meant) first (left (fields .entry)) ≡ Ok (take n (now (run .exit)))) (λ f. numbers-at (K·Written .meant) first (left (fields .entry)) ≡ Err f) ⌝ }
+    ensures within { λ r. ⌜ Cases r (λ n. n ≤ length (now (run .exit))) (λ _. Unit {0}) ⌝ }
+    ensures run { λ _. ⌜ now (run .exit) ≡ overlaid (now (run .entry)) (front (K·Written .meant) (left (fields .entry))) ⌝ }
+{
+    let mut n = 0;
+    while let Some(field) = fields.next_field() {
+        let Some(number) = K::from_reading(read_number(field)) else {
+            return Err(Fault::at(Refusal::FieldForm, first + n));
+        };
+        run[n] = number;
+        n += 1;
+    }
+    Ok(n)
+}
+
+/// The fields of a table line behind its verb.
+fn table<K: Written>(mut fields: Fields<'_>, run: &mut [K]) -> Result<Statement, Fault>
+    ensures value { λ r. ⌜ Reads (K·Written .meant) (table-of (K·Written .meant) (length (now (run .entry))) (left (fields .entry))) (now (run .exit)) r ⌝ }
+    ensures within { λ r. ⌜ Cases r (λ s. InRun s (length (now (run .exit)))) (λ _. Unit {0}) ⌝ }
+    ensures run { λ _. ⌜ now (run .exit) ≡ table-run (K·Written .meant) (now (run .entry)) (left (fields .entry)) ⌝ }
+{
+    let Some(states) = fields.next_field() else {
+        return Err(Fault::of(Refusal::FieldCount));
+    };
+    if more_than(fields, MOST_NUMBERS.min(run.len())) {
+        return Err(Fault::of(Refusal::FieldCount));
+    }
+    let states = plain(states, 2)?;
+    let count = read_run(fields, 3, run)?;
+    Ok(Statement { states, count })
+}
+
+/// What a line asks while a book is open; none is a line that lacks its line feed or is too long.
+/// A run that is lent for the numbers has room for all that a line may have if it holds `MOST_NUMBERS`.
+pub fn read_statement<K: Written>(line: Option<&[u8]>, run: &mut [K]) -> Result<Statement, Fault>
+    ensures value { λ r. ⌜ Reads (K·Written .meant) (statement-of (K·Written .meant) (length (now (run .entry))) (mapped now (line .entry))) (now (run .exit)) r ⌝ }
+    ensures within { λ r. ⌜ Cases r (λ s. InRun s (length (now (run .exit)))) (λ _. Unit {0}) ⌝ }
+    ensures run { λ _. ⌜ now (run .exit) ≡ statement-run (K·Written .meant) (now (run .entry)) (mapped now (line .entry)) ⌝ }
+{
+    let Some(text) = line else {
+        return Err(Fault::of(Refusal::LineBounds));
+    };
+    let mut fields = Fields::new(text);
+    match take_verb(&mut fields) {
+        Some(Verb::Table) => table(fields, run),
+        Some(Verb::Book) | None => Err(Fault::of(Refusal::VerbNotServed)),
+    }
+}
