@@ -1,2 +1,4 @@
 pub mod Laying
 pub mod Entering
+pub mod Parts
+pub mod Weighings

@@ -22,23 +22,23 @@ use Rattle.book.specs.Holds.{table-at, laid}
 abbrev pub unless-entries : {K : Type 0} → Numbers K → List K → ℕ → Option Fault → Option Fault
 unless-entries N run size rest = unless (eqb (length run) size) (fault NumberCount) (unless-found (first-other N 1 run) NotAnEntry rest)
 
-module _ {K : Type 0} (N : Numbers K) (m : Model) (shelf : List K) (states : ℕ) (run : List K) where
-  -- the first of enter's refusals that holds, in their order
-  abbrev pub enter-fault : Option Fault
-  enter-fault =
-      unless (one-to most-states states) (fault StateCount)
-      (unless-entries N run (table-size states (m .events))
-      (no-place (m .events) (m .lines) states (length shelf)))
+-- the first of enter's refusals that holds, in their order, where the shelf has so many numbers
+abbrev pub enter-fault : {K : Type 0} → Numbers K → Model → ℕ → ℕ → List K → Option Fault
+enter-fault N m room states run =
+    unless (one-to most-states states) (fault StateCount)
+    (unless-entries N run (table-size states (m .events))
+    (no-place (m .events) (m .lines) states room))
 
+module _ {K : Type 0} (N : Numbers K) (m : Model) (shelf : List K) (states : ℕ) (run : List K) where
   -- the new table's number, the ledger and the shelf afterwards
   abbrev pub enter-answer : Result ℕ Fault
-  enter-answer = or-refused enter-fault (length (m .lines) + 1)
+  enter-answer = or-refused (enter-fault N m (length shelf) states run) (length (m .lines) + 1)
 
   abbrev pub enter-ledger : Model
-  enter-ledger = or-kept enter-fault m (with-table m states)
+  enter-ledger = or-kept (enter-fault N m (length shelf) states run) m (with-table m states)
 
   abbrev pub enter-shelf : List K
-  enter-shelf = or-kept enter-fault shelf (laid shelf (used (m .events) (m .lines)) run)
+  enter-shelf = or-kept (enter-fault N m (length shelf) states run) shelf (laid shelf (used (m .events) (m .lines)) run)
 
 -- the new table is what was given, and each earlier one is as it was
 pub record TableEntered {K : Type 0} (m m′ : Model) (shelf shelf′ : List K) (states : ℕ) (run : List K) (i : ℕ) : Type 0 where

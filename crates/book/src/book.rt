@@ -5,15 +5,17 @@ ghost use Rattle.std.specs.Results.{Cases};
 ghost use Rattle.ledger.specs.Model.{opened};
 ghost use Rattle.ledger.specs.View.{view};
 ghost use Rattle.book.specs.Holds.{Entered};
+ghost use lib.ListN.{length};
+ghost use Rattle.tables.specs.Strip.{cleared};
+ghost use Rattle.book.specs.Weigh.{Weighed};
 ghost use Rattle.book.specs.Enter.{TableEntered, enter-answer, enter-ledger, enter-shelf};
-use crate::shelf::check_run;
+use crate::placing::place;
 use crate::shelf::lay;
+use crate::weighing::weigh_in;
 use kinds::fault::Fault;
 use kinds::kind::Kind;
 use ledger::ledger::Ledger;
 use tables::shape::Events;
-use tables::shape::States;
-use tables::shape::table_size;
 
 /// A ledger, and a lent shelf on which each table's numbers stand from the place that its line names.
 #[derive(Drop)]
@@ -44,11 +46,18 @@ impl<'a, K: Kind> Book<'a, K> {
         ensures table { λ r. ⌜ Cases r (λ i. TableEntered (view (now (self .entry) .ledger)) (view (now (self .exit) .ledger)) (now (now (self .entry) .shelf)) (now (now (self .exit) .shelf)) states (now (run .entry)) i) (λ _. Unit {0}) ⌝ }
         ensures entries { λ _. ⌜ (Entered (K·Kind .numbers) (view (now (self .entry) .ledger)) (now (now (self .entry) .shelf)) → Entered (K·Kind .numbers) (view (now (self .exit) .ledger)) (now (now (self .exit) .shelf))) ⌝ }
     {
-        let states = States::new(states)?;
-        check_run(run, table_size(states, self.ledger.events()))?;
         let room = self.shelf.len();
-        let placed = self.ledger.append(states, room)?;
+        let placed = place(&mut self.ledger, room, states, run)?;
         lay(self.shelf, placed.place - 1, run);
         Ok(placed.table)
+    }
+
+    /// What a word weighs in a table: the number of the exact weight, or the first refusal that holds. The strip is
+    /// scratch; one of sixteen numbers is all zero afterwards, any other as it was.
+    pub fn weigh(&self, table: usize, word: &[u8], strip: &mut [K]) -> Result<K, Fault>
+        ensures answer { λ r. ⌜ Weighed (K·Kind .numbers) (view (now (self .entry) .ledger)) (now (now (self .entry) .shelf)) table (now (word .entry)) (length (now (strip .entry))) r ⌝ }
+        ensures strip { λ _. ⌜ now (strip .exit) ≡ cleared (K·Kind .numbers) (now (strip .entry)) ⌝ }
+    {
+        weigh_in(&self.ledger, self.shelf, table, word, strip)
     }
 }

@@ -1,3 +1,5 @@
 //! A book: a ledger, and a lent shelf that holds the numbers of its tables.
 pub mod book;
+mod placing;
 mod shelf;
+mod weighing;

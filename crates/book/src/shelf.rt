@@ -4,7 +4,7 @@ ghost use Prim.Native.Nat.{_+_, _≤_};
 ghost use lib.ListN.{length};
 ghost use Rattle.kinds.specs.Faults.{or-refused};
 ghost use Rattle.std.specs.declared.option.Option.the-variants.{None};
-ghost use Rattle.book.specs.Holds.{laid};
+ghost use Rattle.book.specs.Holds.{laid, part};
 ghost use Rattle.book.specs.Enter.{unless-entries};
 use kinds::fault::Fault;
 use kinds::fault::Refusal;
@@ -32,4 +32,13 @@ pub(crate) fn lay<K: Copy>(shelf: &mut [K], at: usize, run: &[K])
     for (i, x) in run.iter().enumerate() {
         shelf[at + i] = *x;
     }
+}
+
+/// The numbers of a shelf from a place on, counted from 0, so many, or as many of them as there are.
+pub(crate) fn part<K: Copy>(shelf: &[K], at: usize, size: usize) -> &[K]
+    ensures { λ r. ⌜ now r ≡ part (now (shelf .entry)) at size ⌝ }
+{
+    let start = at.min(shelf.len());
+    let end = start + size.min(shelf.len() - start);
+    &shelf[start..end]
 }

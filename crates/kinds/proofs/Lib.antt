@@ -3,3 +3,4 @@ pub mod Wholes
 pub mod CountReach
 pub mod BestReach
 pub mod Refusing
+pub mod Answers

@@ -6,7 +6,7 @@ use Rattle.std.specs.declared.option.Option.the-variants.{Some, None}
 use Rattle.std.specs.declared.result.Result.{Result}
 use Rattle.std.specs.declared.result.Result.the-variants.{Ok, Err}
 use Rattle.kinds.specs.declared.fault.Refusal.{Refusal}
-use Rattle.kinds.specs.declared.fault.Refusal.the-variants.{EventCount, StateCount, NumberCount, NotAnEntry, TooManyTables, ShelfFull, OutOfRange, LineBounds, VerbNotServed, FieldCount, FieldForm}
+use Rattle.kinds.specs.declared.fault.Refusal.the-variants.{EventCount, StateCount, NumberCount, NotAnEntry, TooManyTables, ShelfFull, NoSuchTable, WordLength, NotAnEvent, StripLength, OutOfRange, LineBounds, VerbNotServed, FieldCount, FieldForm}
 use Rattle.kinds.specs.declared.fault.Fault.{Fault}
 
 -- the number of each refusal
@@ -17,6 +17,10 @@ number-of NumberCount = 3
 number-of NotAnEntry = 4
 number-of TooManyTables = 5
 number-of ShelfFull = 6
+number-of NoSuchTable = 7
+number-of WordLength = 16
+number-of NotAnEvent = 17
+number-of StripLength = 18
 number-of OutOfRange = 19
 number-of LineBounds = 29
 number-of VerbNotServed = 30

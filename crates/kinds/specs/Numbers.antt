@@ -10,7 +10,7 @@ use Rattle.std.specs.declared.result.Result.{Result}
 use Rattle.std.specs.declared.result.Result.the-variants.{Ok, Err}
 use Rattle.kinds.specs.declared.fault.Fault.{Fault}
 use Rattle.kinds.specs.declared.fault.Refusal.the-variants.{OutOfRange}
-use Rattle.kinds.specs.Faults.{fault}
+use Rattle.kinds.specs.Faults.{fault, then}
 use Rattle.kinds.specs.Semiring.{Semiring, total, product}
 
 -- How the tests on values, the reading of numbers and the writing of values hang together.
@@ -55,6 +55,19 @@ module _ {K : Type 0} (n : Numbers K) where
   -- what an operation answers whose exact result is v
   abbrev pub answer : n .exact .Value → Result K Fault
   answer v = cond (n .fits v) (Ok (n .write v)) (Err (fault OutOfRange))
+
+  -- an exact value, or a refusal where it does not fit
+  abbrev pub checked : n .exact .Value → Result (n .exact .Value) Fault
+  checked v = cond (n .fits v) (Ok v) (Err (fault OutOfRange))
+
+  -- the number of a value that is not refused
+  abbrev pub said : Result (n .exact .Value) Fault → Result K Fault
+  said c = then c (λ v. Ok (n .write v))
+
+  -- r says what c does: a stored number that stands for c's value, or c's refusal
+  abbrev pub Says : Result (n .exact .Value) Fault → Result K Fault → Type 0
+  Says c (Ok x) = (c ≡ Ok (n .read x)) × (n .stored x ≡ true)
+  Says c (Err e) = c ≡ Err e
 
   -- up to sixteen products with up to three entries each add up to a value that fits
   abbrev pub SumsOfEntryProductsFit : Type 0

@@ -17,6 +17,14 @@ pub enum Refusal {
     TooManyTables,
     /// 6: the shelf has too few numbers left.
     ShelfFull,
+    /// 7: there is no table of that number.
+    NoSuchTable,
+    /// 16: the word is longer than 64.
+    WordLength,
+    /// 17: a byte of a word is no event of the book.
+    NotAnEvent,
+    /// 18: the strip is not sixteen numbers.
+    StripLength,
     /// 19: an exact result does not fit.
     OutOfRange,
     /// 29: a line lacks its line feed or is too long.
@@ -41,6 +49,10 @@ impl Refusal {
             Refusal::NotAnEntry => 4,
             Refusal::TooManyTables => 5,
             Refusal::ShelfFull => 6,
+            Refusal::NoSuchTable => 7,
+            Refusal::WordLength => 16,
+            Refusal::NotAnEvent => 17,
+            Refusal::StripLength => 18,
             Refusal::OutOfRange => 19,
             Refusal::LineBounds => 29,
             Refusal::VerbNotServed => 30,

@@ -23,6 +23,7 @@ Has ls i = (1 ≤ i) × (i ≤ length ls)
 abbrev pub line-of : List Line → ℕ → Line
 line-of ls i = getD ls (i - 1) blank
 
+-- the name of the class of table i
 abbrev pub class-of : List Line → ℕ → ℕ
 class-of ls i = line-of ls i .class
 

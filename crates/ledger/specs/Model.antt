@@ -29,9 +29,13 @@ opened k = record { events = k; lines = [] }
 abbrev pub new-line : ℕ → List Line → ℕ → Line
 new-line k ls n = record { states = n; place = 1 + used k ls; class = length ls + 1 }
 
+-- the lines with that of a new table
+abbrev pub with-line : ℕ → List Line → ℕ → List Line
+with-line k ls n = ls ++ (new-line k ls n ∷ [])
+
 -- one table more
 abbrev pub with-table : Model → ℕ → Model
-with-table m n = record { events = m .events; lines = m .lines ++ (new-line (m .events) (m .lines) n ∷ []) }
+with-table m n = record { events = m .events; lines = with-line (m .events) (m .lines) n }
 
 -- why a table with n states has no place in a book with k events and these lines, on a shelf of so many numbers
 abbrev pub no-place : ℕ → List Line → ℕ → ℕ → Option Fault
@@ -45,4 +49,4 @@ module _ (k : ℕ) (ls : List Line) (n shelf : ℕ) where
   append-answer = or-refused (no-place k ls n shelf) (record { table = length ls + 1; place = new-line k ls n .place })
 
   abbrev pub append-lines : List Line
-  append-lines = or-kept (no-place k ls n shelf) ls (ls ++ (new-line k ls n ∷ []))
+  append-lines = or-kept (no-place k ls n shelf) ls (with-line k ls n)

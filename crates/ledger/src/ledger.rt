@@ -4,8 +4,10 @@ ghost use Prim.Native.Nat.{_≤_, _*_};
 ghost use lib.ListN.{length, take};
 ghost use Rattle.std.specs.Results.{Cases};
 ghost use Rattle.tables.specs.Shape.{most-events, most-states, table-size};
-ghost use Rattle.ledger.specs.Lines.{Named, Sized, Packed, most-tables, used};
+ghost use Rattle.ledger.specs.Classes.{merged-if-there};
+ghost use Rattle.ledger.specs.Lines.{Named, Sized, Packed, class-of, most-tables, used};
 ghost use Rattle.ledger.specs.Model.{append-answer, append-lines};
+ghost use Rattle.ledger.specs.Standing.{Stands};
 use crate::line::Line;
 use crate::lines::Lines;
 use crate::lines::MOST_TABLES;
@@ -34,6 +36,14 @@ pub struct Ledger {
 pub struct Placed {
     pub table: usize,
     pub place: usize,
+}
+
+/// Where a table of the book stands: its states, the place of its first number on the shelf, counted from 0, and how many it has.
+#[derive(Clone, Copy)]
+pub struct Standing {
+    pub states: States,
+    pub at: usize,
+    pub size: usize,
 }
 
 impl Ledger {
@@ -74,6 +84,22 @@ impl Ledger {
         last.place - 1 + last.size(self.events)
     }
 
+    /// Where a table stands, or a refusal at the given place where there is none of that number.
+    pub fn table(&self, table: usize, place: usize) -> Result<Standing, Fault>
+        ensures { λ r. ⌜ Stands (now (self .entry) .events .count) (take (now (self .entry) .tables) (now (self .entry) .lines .all)) table place r ⌝ }
+    {
+        if table < 1 || table > self.tables {
+            return Err(Fault::at(Refusal::NoSuchTable, place));
+        }
+        let line = self.lines.all[table - 1];
+        let states = States::new(line.states)?;
+        Ok(Standing {
+            states,
+            at: line.place - 1,
+            size: table_size(states, self.events),
+        })
+    }
+
     /// One table more, right behind the others and in a class of its own; refused where there are as many as may be,
     /// or where a shelf of so many numbers has not enough left.
     pub fn append(&mut self, states: States, shelf: usize) -> Result<Placed, Fault>
@@ -97,5 +123,28 @@ impl Ledger {
             table: tables + 1,
             place: 1 + used,
         })
+    }
+
+    /// The name of the class of a table that there is.
+    fn class(&self, table: usize) -> usize
+        requires some { ⌜ 1 ≤ table ⌝ }
+        requires there { ⌜ table ≤ now self .tables ⌝ }
+        ensures { λ r. ⌜ r ≡ class-of (take (now (self .entry) .tables) (now (self .entry) .lines .all)) table ⌝ }
+    {
+        self.lines.all[table - 1].class
+    }
+
+    /// Makes the classes of two tables of the book one, under the smaller name. Where one is not in the book, nothing changes.
+    pub fn merge(&mut self, a: usize, b: usize)
+        ensures lines { λ _. ⌜ take (now (self .exit) .tables) (now (self .exit) .lines .all) ≡ merged-if-there a b (take (now (self .entry) .tables) (now (self .entry) .lines .all)) ⌝ }
+        ensures events { λ _. ⌜ now (self .exit) .events ≡ now (self .entry) .events ⌝ }
+    {
+        let tables = self.tables;
+        if a < 1 || a > tables || b < 1 || b > tables {
+            return;
+        }
+        let x = self.class(a);
+        let y = self.class(b);
+        self.lines.relabel(tables, x.max(y), x.min(y));
     }
 }

@@ -2,6 +2,7 @@
 ghost use mathlib.Core.Path.{_≡_};
 ghost use Prim.Native.Nat.{_≤_};
 ghost use Rattle.tables.specs.Shape.{most-events, most-states, table-size};
+ghost use Rattle.ledger.specs.Classes.{with-class};
 use tables::shape::Events;
 use tables::shape::States;
 use tables::shape::table_size;
@@ -23,6 +24,13 @@ impl Line {
         self.states = states;
         self.place = place;
         self.class = class;
+    }
+
+    /// Moves the table to another class.
+    pub fn relabel(&mut self, to: usize)
+        ensures { λ _. ⌜ now (self .exit) ≡ with-class (now (self .entry)) to ⌝ }
+    {
+        self.class = to;
     }
 
     /// How many numbers the table has.

@@ -1,7 +1,9 @@
 //! The lines of the ledger, in order of entry.
 ghost use mathlib.Core.Path.{_≡_};
-ghost use Prim.Native.Nat.{_<_};
-ghost use lib.ListN.{set};
+ghost use mathlib.Core.List.{map, _++_};
+ghost use Prim.Native.Nat.{_≤_, _<_};
+ghost use lib.ListN.{drop, set, take};
+ghost use Rattle.ledger.specs.Classes.{relabelled};
 ghost use Rattle.ledger.specs.Lines.{most-tables};
 use crate::line::Line;
 
@@ -21,5 +23,17 @@ impl Lines {
         ensures { λ _. ⌜ now (self .exit) .all ≡ set (now (self .entry) .all) at (record { states = states; place = place; class = class }) ⌝ }
     {
         self.all[at].write(states, place, class);
+    }
+
+    /// Moves each of the first `count` lines of one class to another.
+    pub(crate) fn relabel(&mut self, count: usize, from: usize, to: usize)
+        requires { ⌜ count ≤ most-tables ⌝ }
+        ensures { λ _. ⌜ now (self .exit) .all ≡ map (relabelled from to) (take count (now (self .entry) .all)) ++ drop count (now (self .entry) .all) ⌝ }
+    {
+        for i in 0..count {
+            if self.all[i].class == from {
+                self.all[i].relabel(to);
+            }
+        }
     }
 }

@@ -17,8 +17,9 @@ use Rattle.kinds.specs.Faults.{fault, fault-at, then}
 use Rattle.lines.specs.declared.numbers.Reading.{Reading}
 use Rattle.lines.specs.declared.numbers.Reading.the-variants as reading
 use Rattle.lines.specs.declared.statements.Statement.{Statement}
+use Rattle.lines.specs.declared.statements.Statement.the-variants as statement
 use Rattle.lines.specs.declared.verbs.Verb.{Verb}
-use Rattle.lines.specs.declared.verbs.Verb.the-variants.{Book, Table}
+use Rattle.lines.specs.declared.verbs.Verb.the-variants.{Book, Table, Weigh}
 use Rattle.lines.specs.Split.{split}
 use Rattle.lines.specs.Numerals.{reading-of, plain-at}
 use Rattle.lines.specs.Verbs.{verb-of, behind-verb}
@@ -39,6 +40,8 @@ best-meant reading.Malformed = None
 pub data Asked (K : Type 0) : Type 0 where
   -- table,STATES,numbers: enter a table with these states and numbers
   enter : ℕ → List K → Asked K
+  -- weigh,A,WORD: weigh a word in a table
+  weigh : ℕ → List ℕ → Asked K
 
 -- a line has at most 1,809 numbers
 abbrev pub most-numbers : ℕ
@@ -50,11 +53,20 @@ overlaid run ks = ks ++ drop (length ks) run
 
 -- what a read statement stands for, with its numbers at the front of the run
 abbrev pub asked-by : {K : Type 0} → Statement → List K → Asked K
-asked-by s run = enter (s .states) (take (s .count) run)
+asked-by (statement.Table states count) run = enter states (take count run)
+asked-by (statement.Weigh table word) run = weigh table (word .now)
 
 -- the numbers of a read statement stand within a run of this length
 abbrev pub InRun : Statement → ℕ → Type 0
-InRun s room = s .count ≤ room
+InRun (statement.Table states count) room = count ≤ room
+InRun (statement.Weigh table word) room = Unit {0}
+
+-- A,WORD behind a verb: a table's number and a word
+abbrev pub table-and-word : List (List ℕ) → Result (ℕ × List ℕ) Fault
+table-and-word [] = Err (fault FieldCount)
+table-and-word (a ∷ []) = Err (fault FieldCount)
+table-and-word (a ∷ w ∷ []) = then (plain-at a 2) (λ table. Ok (table, w))
+table-and-word (a ∷ w ∷ f ∷ fs) = Err (fault FieldCount)
 
 module _ {K : Type 0} (meant : Reading → Option K) where
   abbrev pub put : Option K → List K → List K
@@ -77,6 +89,7 @@ module _ {K : Type 0} (meant : Reading → Option K) where
 
   abbrev pub statement-by : Option Verb → ℕ → List (List ℕ) → Result (Asked K) Fault
   statement-by (Some Table) room fs = table-of room fs
+  statement-by (Some Weigh) room fs = then (table-and-word fs) (λ x. Ok (weigh (x .0) (x .1)))
   statement-by (Some Book) room fs = Err (fault VerbNotServed)
   statement-by None room fs = Err (fault VerbNotServed)
 
@@ -96,6 +109,7 @@ module _ {K : Type 0} (meant : Reading → Option K) where
 
   abbrev pub statement-run-by : Option Verb → List K → List (List ℕ) → List K
   statement-run-by (Some Table) run fs = table-run run fs
+  statement-run-by (Some Weigh) run fs = run
   statement-run-by (Some Book) run fs = run
   statement-run-by None run fs = run
 

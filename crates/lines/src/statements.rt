@@ -2,14 +2,16 @@
 ghost use mathlib.Core.Path.{_≡_};
 ghost use Prim.Native.Nat.{_+_, _≤_, _<_};
 ghost use lib.Dec.{ltb};
+ghost use lib.IntN.{ℤ};
 ghost use lib.ListN.{length, take};
 ghost use Rattle.std.specs.Options.{mapped};
 ghost use Rattle.std.specs.Results.{Cases};
 ghost use Rattle.std.specs.declared.option.Option.{Option};
+ghost use Rattle.std.specs.declared.option.Option.the-variants.{Some};
 ghost use Rattle.std.specs.declared.result.Result.the-variants.{Ok, Err};
 ghost use Rattle.lines.specs.declared.numbers.Reading.{Reading as Read};
 ghost use Rattle.lines.specs.Split.{left};
-ghost use Rattle.lines.specs.Statements.{most-numbers, count-meant, best-meant, front, numbers-at, overlaid, table-of, table-run, statement-of, statement-run, InRun, Reads};
+ghost use Rattle.lines.specs.Statements.{most-numbers, count-meant, best-meant, front, numbers-at, overlaid, table-of, table-run, table-and-word, statement-of, statement-run, InRun, Reads};
 use crate::fields::Fields;
 use crate::numbers::Reading;
 use crate::numbers::plain;
@@ -29,13 +31,22 @@ pub trait Written: Copy {
     /// The number that a field means, if it means one.
     ghost meant: { Read → Option Self };
 
+    /// The whole number that a number is shown as, or none for a hyphen.
+    ghost shown: { Self → Option ℤ };
+
     /// The number of a field that reads so.
     fn from_reading(reading: Reading) -> Option<Self>
         ensures { λ r. ⌜ r ≡ meant reading ⌝ };
+
+    /// What the number is shown as.
+    fn to_shown(self) -> Option<i64>
+        ensures { λ r. ⌜ r ≡ shown self ⌝ };
 }
 
 pub impl Written for Count as CountWritten {
     ghost meant = { count-meant };
+
+    ghost shown = { λ x. Some (x .0) };
 
     fn from_reading(reading: Reading) -> Option<Count> {
         match reading {
@@ -43,10 +54,16 @@ pub impl Written for Count as CountWritten {
             Reading::Hyphen | Reading::Malformed => None,
         }
     }
+
+    fn to_shown(self) -> Option<i64> {
+        Some(self.0)
+    }
 }
 
 pub impl Written for Best as BestWritten {
     ghost meant = { best-meant };
+
+    ghost shown = { λ x. x .0 };
 
     fn from_reading(reading: Reading) -> Option<Best> {
         match reading {
@@ -55,14 +72,19 @@ pub impl Written for Best as BestWritten {
             Reading::Malformed => None,
         }
     }
+
+    fn to_shown(self) -> Option<i64> {
+        self.0
+    }
 }
 
-/// What a line asks of an open book: to enter a table with so many states and so many numbers, which stand at the front
-/// of the run that they were read into.
+/// What a line asks of an open book. Its numbers stand at the front of the run that they were read into.
 #[derive(Clone, Copy)]
-pub struct Statement {
-    pub states: usize,
-    pub count: usize,
+pub enum Statement<'a> {
+    /// Enter a table with so many states and so many numbers.
+    Table(usize, usize),
+    /// Weigh a word in a table.
+    Weigh(usize, &'a [u8]),
 }
 
 /// Whether more than so many fields are left.
@@ -100,7 +122,7 @@ fn read_run<K: Written>(mut fields: Fields<'_>, first: usize, run: &mut [K]) -> 
 }
 
 /// The fields of a table line behind its verb.
-fn table<K: Written>(mut fields: Fields<'_>, run: &mut [K]) -> Result<Statement, Fault>
+fn table<'a, K: Written>(mut fields: Fields<'a>, run: &mut [K]) -> Result<Statement<'a>, Fault>
     ensures value { λ r. ⌜ Reads (K·Written .meant) (table-of (K·Written .meant) (length (now (run .entry))) (left (fields .entry))) (now (run .exit)) r ⌝ }
     ensures within { λ r. ⌜ Cases r (λ s. InRun s (length (now (run .exit)))) (λ _. Unit {0}) ⌝ }
     ensures run { λ _. ⌜ now (run .exit) ≡ table-run (K·Written .meant) (now (run .entry)) (left (fields .entry)) ⌝ }
@@ -113,12 +135,32 @@ fn table<K: Written>(mut fields: Fields<'_>, run: &mut [K]) -> Result<Statement,
     }
     let states = plain(states, 2)?;
     let count = read_run(fields, 3, run)?;
-    Ok(Statement { states, count })
+    Ok(Statement::Table(states, count))
+}
+
+/// A table's number and a word, which are all fields behind the verb.
+fn table_and_word<'a>(mut fields: Fields<'a>) -> Result<(usize, &'a [u8]), Fault>
+    ensures { λ r. ⌜ Cases r (λ x. table-and-word (left (fields .entry)) ≡ Ok (x .0, now (x .1))) (λ f. table-and-word (left (fields .entry)) ≡ Err f) ⌝ }
+{
+    let Some(table) = fields.next_field() else {
+        return Err(Fault::of(Refusal::FieldCount));
+    };
+    let Some(word) = fields.next_field() else {
+        return Err(Fault::of(Refusal::FieldCount));
+    };
+    let None = fields.next_field() else {
+        return Err(Fault::of(Refusal::FieldCount));
+    };
+    let table = plain(table, 2)?;
+    Ok((table, word))
 }
 
 /// What a line asks while a book is open; none is a line that lacks its line feed or is too long.
 /// A run that is lent for the numbers has room for all that a line may have if it holds `MOST_NUMBERS`.
-pub fn read_statement<K: Written>(line: Option<&[u8]>, run: &mut [K]) -> Result<Statement, Fault>
+pub fn read_statement<'a, K: Written>(
+    line: Option<&'a [u8]>,
+    run: &mut [K],
+) -> Result<Statement<'a>, Fault>
     ensures value { λ r. ⌜ Reads (K·Written .meant) (statement-of (K·Written .meant) (length (now (run .entry))) (mapped now (line .entry))) (now (run .exit)) r ⌝ }
     ensures within { λ r. ⌜ Cases r (λ s. InRun s (length (now (run .exit)))) (λ _. Unit {0}) ⌝ }
     ensures run { λ _. ⌜ now (run .exit) ≡ statement-run (K·Written .meant) (now (run .entry)) (mapped now (line .entry)) ⌝ }
@@ -129,6 +171,10 @@ pub fn read_statement<K: Written>(line: Option<&[u8]>, run: &mut [K]) -> Result<
     let mut fields = Fields::new(text);
     match take_verb(&mut fields) {
         Some(Verb::Table) => table(fields, run),
+        Some(Verb::Weigh) => {
+            let (table, word) = table_and_word(fields)?;
+            Ok(Statement::Weigh(table, word))
+        }
         Some(Verb::Book) | None => Err(Fault::of(Refusal::VerbNotServed)),
     }
 }

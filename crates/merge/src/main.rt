@@ -28,6 +28,7 @@ use std::io::Stdin;
 use std::io::Stdout;
 use std::io::Write;
 use tables::shape::Events;
+use tables::weighing::STRIP_SIZE;
 
 /// A book's shelf has so many numbers.
 const SHELF_NUMBERS: usize = 4096;
@@ -82,19 +83,20 @@ impl Exchange {
     }
 }
 
-/// Answers the lines behind the one that opened a book, on a shelf and with a run that are lent for it.
+/// Answers the lines behind the one that opened a book, with a shelf, a run for numbers and scratch that are lent for it.
 fn serve<K: Kind + Written>(
     exchange: &mut Exchange,
     events: Events,
     shelf: &mut [K],
     run: &mut [K],
+    strip: &mut [K],
 ) -> io::Result<()> {
     let mut book = Book::open(events, shelf);
     for _ in 0..u64::MAX {
         if !exchange.next_line()? {
             break;
         }
-        let reply = answer_line(&mut book, run, exchange.line.text());
+        let reply = answer_line(&mut book, run, strip, exchange.line.text());
         exchange.answer(reply)?;
     }
     Ok(())
@@ -107,12 +109,26 @@ fn open_and_serve(rt: &LibcRuntime, exchange: &mut Exchange, opened: Opened) -> 
         KindName::Count => {
             let mut shelf = vec![in rt.alloc(); Count::zero(); SHELF_NUMBERS]?;
             let mut run = vec![in rt.alloc(); Count::zero(); MOST_NUMBERS]?;
-            serve(exchange, opened.events, shelf.as_mut_slice(), run.as_mut_slice())
+            let mut strip = [Count::zero(); STRIP_SIZE];
+            serve(
+                exchange,
+                opened.events,
+                shelf.as_mut_slice(),
+                run.as_mut_slice(),
+                &mut strip,
+            )
         }
         KindName::Best => {
             let mut shelf = vec![in rt.alloc(); Best::zero(); SHELF_NUMBERS]?;
             let mut run = vec![in rt.alloc(); Best::zero(); MOST_NUMBERS]?;
-            serve(exchange, opened.events, shelf.as_mut_slice(), run.as_mut_slice())
+            let mut strip = [Best::zero(); STRIP_SIZE];
+            serve(
+                exchange,
+                opened.events,
+                shelf.as_mut_slice(),
+                run.as_mut_slice(),
+                &mut strip,
+            )
         }
     }
 }

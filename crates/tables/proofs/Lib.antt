@@ -1,3 +1,12 @@
 pub mod Limits
 pub mod Sizes
 pub mod Firsts
+pub mod Sequences
+pub mod Sums
+pub mod Ranges
+pub mod Strips
+pub mod Paths
+pub mod Admitted
+pub mod Weighed
+pub mod EntryRuns
+pub mod Letters

@@ -1,3 +1,12 @@
 pub mod Shape
 pub mod Sizes
+pub mod Firsts
 pub mod Entries
+pub mod Words
+pub mod Layout
+pub mod Weight
+pub mod Backward
+pub mod Path
+pub mod Range
+pub mod Strip
+pub mod Weighing

@@ -25,6 +25,7 @@ one-to most n = leb 1 n && leb n most
 abbrev pub passed-to : ℕ → Refusal → ℕ → Result ℕ Fault
 passed-to most r n = cond (one-to most n) (Ok n) (Err (fault r))
 
+-- what is answered to so many events, and to so many states
 abbrev pub events-answer : ℕ → Result ℕ Fault
 events-answer = passed-to most-events EventCount
 

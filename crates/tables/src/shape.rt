@@ -12,7 +12,7 @@ use kinds::fault::Refusal;
 /// The most events of a book, and the most states of a table.
 const MOST_EVENTS: usize = 6;
 
-const MOST_STATES: usize = 8;
+pub(crate) const MOST_STATES: usize = 8;
 
 /// The events of a book: 1 to 6.
 #[derive(Clone, Copy)]

@@ -1,4 +1,4 @@
-use mathlib.Core.Path.{_≡_, ap, _∙_}
+use mathlib.Core.Path.{_≡_, refl, ap, _∙_}
 use Prim.Native.Nat.{_+_, _<_}
 use native.Mathlib.Omega.{arith}
 use lib.ListN.{length, set}
@@ -23,4 +23,4 @@ loop-i-again g c =
 pub returns : need.returns
 returns g c =
     let z : c .loop-i .i ≡ length (c .args .run .now) = omega arith in
-    c .loop-i .inv ∙ ap (paste (c .args .shelf .now) (c .args .at) (c .args .run .now)) z ∙ paste-all (c .args .shelf .now) (c .args .at) (c .args .run .now) (length (c .args .run .now)) (λ i. length (c .args .run .now))
+    c .loop-i .inv ∙ ap (paste (c .args .shelf .now) (c .args .at) (c .args .run .now)) z ∙ paste-all (c .args .shelf .now) (c .args .at) (c .args .run .now) (length (c .args .run .now)) refl
