@@ -1,3 +1,4 @@
 pub mod Holds
 pub mod Enter
 pub mod Weigh
+pub mod Join

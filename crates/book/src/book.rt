@@ -20,8 +20,8 @@ use tables::shape::Events;
 /// A ledger, and a lent shelf on which each table's numbers stand from the place that its line names.
 #[derive(Drop)]
 pub struct Book<'a, K: Kind> {
-    shelf: &'a mut [K],
-    ledger: Ledger,
+    pub(crate) shelf: &'a mut [K],
+    pub(crate) ledger: Ledger,
 }
 
 impl<'a, K: Kind> Book<'a, K> {

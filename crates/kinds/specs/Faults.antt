@@ -6,7 +6,7 @@ use Rattle.std.specs.declared.option.Option.the-variants.{Some, None}
 use Rattle.std.specs.declared.result.Result.{Result}
 use Rattle.std.specs.declared.result.Result.the-variants.{Ok, Err}
 use Rattle.kinds.specs.declared.fault.Refusal.{Refusal}
-use Rattle.kinds.specs.declared.fault.Refusal.the-variants.{EventCount, StateCount, NumberCount, NotAnEntry, TooManyTables, ShelfFull, NoSuchTable, WordLength, NotAnEvent, StripLength, OutOfRange, LineBounds, VerbNotServed, FieldCount, FieldForm}
+use Rattle.kinds.specs.declared.fault.Refusal.the-variants.{EventCount, StateCount, NumberCount, NotAnEntry, TooManyTables, ShelfFull, NoSuchTable, SameTable, VectorCount, SheetCount, NotASheetEntry, ScaleDoesNotCancel, StartRuleFails, StepRuleFails, EndRuleFails, WordLength, NotAnEvent, StripLength, OutOfRange, ScaleRange, Letters, ProbabilityRange, RowSum, OutputLength, LineBounds, VerbNotServed, FieldCount, FieldForm}
 use Rattle.kinds.specs.declared.fault.Fault.{Fault}
 
 -- the number of each refusal
@@ -18,10 +18,23 @@ number-of NotAnEntry = 4
 number-of TooManyTables = 5
 number-of ShelfFull = 6
 number-of NoSuchTable = 7
+number-of SameTable = 8
+number-of VectorCount = 9
+number-of SheetCount = 10
+number-of NotASheetEntry = 11
+number-of ScaleDoesNotCancel = 12
+number-of StartRuleFails = 13
+number-of StepRuleFails = 14
+number-of EndRuleFails = 15
 number-of WordLength = 16
 number-of NotAnEvent = 17
 number-of StripLength = 18
 number-of OutOfRange = 19
+number-of ScaleRange = 22
+number-of Letters = 23
+number-of ProbabilityRange = 24
+number-of RowSum = 25
+number-of OutputLength = 26
 number-of LineBounds = 29
 number-of VerbNotServed = 30
 number-of FieldCount = 31

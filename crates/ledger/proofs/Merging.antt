@@ -149,3 +149,17 @@ module _ (n x y : ℕ) (all after : List Line) (fits : n ≤ length all) (e : af
 
   pub held-as-many : length after ≡ length all
   held-as-many = ap length e ∙ simp (length-append, length-map, length-take, length-drop) (omega arith)
+
+-- ---- what a merge leaves as it was
+pub merged-as-many : (a b : ℕ) (ls : List Line) → length (merged a b ls) ≡ length ls
+merged-as-many a b ls = length-map ls (relabelled (max (class-of ls a) (class-of ls b)) (min (class-of ls a) (class-of ls b)))
+
+pub line-merged : (a b : ℕ) (ls : List Line) (i : ℕ) → Has ls i → (line-of (merged a b ls) i .states ≡ line-of ls i .states) × (line-of (merged a b ls) i .place ≡ line-of ls i .place)
+line-merged a b ls i has =
+    let from = max (class-of ls a) (class-of ls b) in
+    let to = min (class-of ls a) (class-of ls b) in
+    let e = line-moved from to ls i has in
+    (ap (λ (l : Line). l .states) e ∙ states-stay from to (line-of ls i), ap (λ (l : Line). l .place) e ∙ place-stays from to (line-of ls i))
+
+pub used-merged : (k a b : ℕ) (ls : List Line) → used k (merged a b ls) ≡ used k ls
+used-merged k a b ls = used-still k (max (class-of ls a) (class-of ls b)) (min (class-of ls a) (class-of ls b)) ls

@@ -9,7 +9,7 @@ use Rattle.std.specs.declared.option.Option.the-variants.{Some, None}
 use Rattle.kinds.specs.declared.fault.Fault.{Fault}
 use Rattle.kinds.specs.Faults.{number-of}
 use Rattle.lines.specs.declared.replies.Reply.{Reply}
-use Rattle.lines.specs.declared.replies.Reply.the-variants.{Open, Table, Weighs, Refused}
+use Rattle.lines.specs.declared.replies.Reply.the-variants.{Open, Table, Joined, Weighs, Refused}
 use Rattle.lines.specs.declared.replies.Answer.{Answer}
 
 -- a weight: a whole number, or a hyphen for none
@@ -21,6 +21,7 @@ weight-text (Some z) = signed z
 abbrev pub reply-text : Reply → List ℕ
 reply-text Open = codes "open"
 reply-text (Table t) = codes "table," ++ decimal t
+reply-text Joined = codes "joined"
 reply-text (Weighs w) = codes "weighs," ++ weight-text w
 reply-text (Refused f) = codes "refused," ++ (decimal (number-of (f .refusal)) ++ (codes "," ++ decimal (f .place)))
 

@@ -19,7 +19,7 @@ use Rattle.lines.specs.declared.numbers.Reading.the-variants as reading
 use Rattle.lines.specs.declared.statements.Statement.{Statement}
 use Rattle.lines.specs.declared.statements.Statement.the-variants as statement
 use Rattle.lines.specs.declared.verbs.Verb.{Verb}
-use Rattle.lines.specs.declared.verbs.Verb.the-variants.{Book, Table, Weigh}
+use Rattle.lines.specs.declared.verbs.Verb.the-variants.{Book, Table, Join, Weigh}
 use Rattle.lines.specs.Split.{split}
 use Rattle.lines.specs.Numerals.{reading-of, plain-at}
 use Rattle.lines.specs.Verbs.{verb-of, behind-verb}
@@ -40,6 +40,8 @@ best-meant reading.Malformed = None
 pub data Asked (K : Type 0) : Type 0 where
   -- table,STATES,numbers: enter a table with these states and numbers
   enter : ℕ → List K → Asked K
+  -- join,A,B,R,numbers: join two tables by a sheet of R vectors
+  join : ℕ → ℕ → ℕ → List K → Asked K
   -- weigh,A,WORD: weigh a word in a table
   weigh : ℕ → List ℕ → Asked K
 
@@ -54,11 +56,13 @@ overlaid run ks = ks ++ drop (length ks) run
 -- what a read statement stands for, with its numbers at the front of the run
 abbrev pub asked-by : {K : Type 0} → Statement → List K → Asked K
 asked-by (statement.Table states count) run = enter states (take count run)
+asked-by (statement.Join a b vectors count) run = join a b vectors (take count run)
 asked-by (statement.Weigh table word) run = weigh table (word .now)
 
 -- the numbers of a read statement stand within a run of this length
 abbrev pub InRun : Statement → ℕ → Type 0
 InRun (statement.Table states count) room = count ≤ room
+InRun (statement.Join a b vectors count) room = count ≤ room
 InRun (statement.Weigh table word) room = Unit {0}
 
 -- A,WORD behind a verb: a table's number and a word
@@ -87,8 +91,19 @@ module _ {K : Type 0} (meant : Reading → Option K) where
   table-of room [] = Err (fault FieldCount)
   table-of room (s ∷ fs) = cond (leb (length fs) (min most-numbers room)) (then (plain-at s 2) (λ n. then (numbers-at 3 fs) (λ ks. Ok (enter n ks)))) (Err (fault FieldCount))
 
+  -- join,A,B,R,numbers behind its verb
+  abbrev pub join-of : ℕ → List (List ℕ) → Result (Asked K) Fault
+  join-of room [] = Err (fault FieldCount)
+  join-of room (a ∷ []) = Err (fault FieldCount)
+  join-of room (a ∷ b ∷ []) = Err (fault FieldCount)
+  join-of room (a ∷ b ∷ r ∷ fs) =
+      cond (leb (length fs) (min most-numbers room))
+      (then (plain-at a 2) (λ x. then (plain-at b 3) (λ y. then (plain-at r 4) (λ vectors. then (numbers-at 5 fs) (λ ks. Ok (join x y vectors ks))))))
+      (Err (fault FieldCount))
+
   abbrev pub statement-by : Option Verb → ℕ → List (List ℕ) → Result (Asked K) Fault
   statement-by (Some Table) room fs = table-of room fs
+  statement-by (Some Join) room fs = join-of room fs
   statement-by (Some Weigh) room fs = then (table-and-word fs) (λ x. Ok (weigh (x .0) (x .1)))
   statement-by (Some Book) room fs = Err (fault VerbNotServed)
   statement-by None room fs = Err (fault VerbNotServed)
@@ -107,8 +122,18 @@ module _ {K : Type 0} (meant : Reading → Option K) where
   table-run run [] = run
   table-run run (s ∷ fs) = cond (leb (length fs) (min most-numbers (length run))) (kept-or (plain-at s 2) run (overlaid run (front fs))) run
 
+  abbrev pub join-run : List K → List (List ℕ) → List K
+  join-run run [] = run
+  join-run run (a ∷ []) = run
+  join-run run (a ∷ b ∷ []) = run
+  join-run run (a ∷ b ∷ r ∷ fs) =
+      cond (leb (length fs) (min most-numbers (length run)))
+      (kept-or (plain-at a 2) run (kept-or (plain-at b 3) run (kept-or (plain-at r 4) run (overlaid run (front fs)))))
+      run
+
   abbrev pub statement-run-by : Option Verb → List K → List (List ℕ) → List K
   statement-run-by (Some Table) run fs = table-run run fs
+  statement-run-by (Some Join) run fs = join-run run fs
   statement-run-by (Some Weigh) run fs = run
   statement-run-by (Some Book) run fs = run
   statement-run-by None run fs = run

@@ -66,6 +66,8 @@ pub fn read_opening(line: Option<&[u8]>) -> Result<Opening, Fault>
     let mut fields = Fields::new(text);
     match take_verb(&mut fields) {
         Some(Verb::Book) => book(fields),
-        Some(Verb::Table | Verb::Weigh) | None => Err(Fault::of(Refusal::VerbNotServed)),
+        Some(Verb::Table | Verb::Join | Verb::Weigh) | None => Err(Fault::of(
+            Refusal::VerbNotServed,
+        )),
     }
 }

@@ -16,6 +16,8 @@ pub enum Reply {
     Open,
     /// A table was entered under this number.
     Table(usize),
+    /// Two tables were joined.
+    Joined,
     /// A word weighs this, or none.
     Weighs(Option<i64>),
     /// The line is refused.
@@ -36,6 +38,7 @@ pub impl fmt::Display for Reply as ReplyDisplay {
         match self {
             Reply::Open => f.write_str("open"),
             Reply::Table(table) => write!(f, "table,{table}"),
+            Reply::Joined => f.write_str("joined"),
             Reply::Weighs(None) => f.write_str("weighs,-"),
             Reply::Weighs(Some(weight)) => write!(f, "weighs,{weight}"),
             Reply::Refused(fault) => {

@@ -11,7 +11,7 @@ ghost use Rattle.std.specs.declared.option.Option.the-variants.{Some};
 ghost use Rattle.std.specs.declared.result.Result.the-variants.{Ok, Err};
 ghost use Rattle.lines.specs.declared.numbers.Reading.{Reading as Read};
 ghost use Rattle.lines.specs.Split.{left};
-ghost use Rattle.lines.specs.Statements.{most-numbers, count-meant, best-meant, front, numbers-at, overlaid, table-of, table-run, table-and-word, statement-of, statement-run, InRun, Reads};
+ghost use Rattle.lines.specs.Statements.{most-numbers, count-meant, best-meant, front, numbers-at, overlaid, table-of, table-run, join-of, join-run, table-and-word, statement-of, statement-run, InRun, Reads};
 use crate::fields::Fields;
 use crate::numbers::Reading;
 use crate::numbers::plain;
@@ -83,6 +83,8 @@ pub impl Written for Best as BestWritten {
 pub enum Statement<'a> {
     /// Enter a table with so many states and so many numbers.
     Table(usize, usize),
+    /// Join two tables by a sheet of so many vectors and so many numbers.
+    Join(usize, usize, usize, usize),
     /// Weigh a word in a table.
     Weigh(usize, &'a [u8]),
 }
@@ -138,6 +140,31 @@ fn table<'a, K: Written>(mut fields: Fields<'a>, run: &mut [K]) -> Result<Statem
     Ok(Statement::Table(states, count))
 }
 
+/// The fields of a join line behind its verb.
+fn join<'a, K: Written>(mut fields: Fields<'a>, run: &mut [K]) -> Result<Statement<'a>, Fault>
+    ensures value { λ r. ⌜ Reads (K·Written .meant) (join-of (K·Written .meant) (length (now (run .entry))) (left (fields .entry))) (now (run .exit)) r ⌝ }
+    ensures within { λ r. ⌜ Cases r (λ s. InRun s (length (now (run .exit)))) (λ _. Unit {0}) ⌝ }
+    ensures run { λ _. ⌜ now (run .exit) ≡ join-run (K·Written .meant) (now (run .entry)) (left (fields .entry)) ⌝ }
+{
+    let Some(a) = fields.next_field() else {
+        return Err(Fault::of(Refusal::FieldCount));
+    };
+    let Some(b) = fields.next_field() else {
+        return Err(Fault::of(Refusal::FieldCount));
+    };
+    let Some(vectors) = fields.next_field() else {
+        return Err(Fault::of(Refusal::FieldCount));
+    };
+    if more_than(fields, MOST_NUMBERS.min(run.len())) {
+        return Err(Fault::of(Refusal::FieldCount));
+    }
+    let a = plain(a, 2)?;
+    let b = plain(b, 3)?;
+    let vectors = plain(vectors, 4)?;
+    let count = read_run(fields, 5, run)?;
+    Ok(Statement::Join(a, b, vectors, count))
+}
+
 /// A table's number and a word, which are all fields behind the verb.
 fn table_and_word<'a>(mut fields: Fields<'a>) -> Result<(usize, &'a [u8]), Fault>
     ensures { λ r. ⌜ Cases r (λ x. table-and-word (left (fields .entry)) ≡ Ok (x .0, now (x .1))) (λ f. table-and-word (left (fields .entry)) ≡ Err f) ⌝ }
@@ -171,6 +198,7 @@ pub fn read_statement<'a, K: Written>(
     let mut fields = Fields::new(text);
     match take_verb(&mut fields) {
         Some(Verb::Table) => table(fields, run),
+        Some(Verb::Join) => join(fields, run),
         Some(Verb::Weigh) => {
             let (table, word) = table_and_word(fields)?;
             Ok(Statement::Weigh(table, word))

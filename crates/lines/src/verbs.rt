@@ -10,6 +10,7 @@ use crate::fields::Fields;
 pub enum Verb {
     Book,
     Table,
+    Join,
     Weigh,
 }
 
@@ -30,6 +31,8 @@ pub fn take_verb(fields: &mut Fields<'_>) -> Option<Verb>
         Some(Verb::Book)
     } else if is(name, b"table") {
         Some(Verb::Table)
+    } else if is(name, b"join") {
+        Some(Verb::Join)
     } else if is(name, b"weigh") {
         Some(Verb::Weigh)
     } else {

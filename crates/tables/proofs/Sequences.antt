@@ -34,12 +34,12 @@ module _ (S : Semiring) where
     over-map h [] f = refl
     over-map h (x ∷ xs) f = ap (S .plus (f (h x))) (over-map h xs f)
 
-    times-over : (a : S .Value) (xs : List A) (f : A → S .Value) → S .times a (over S xs f) ≡ over S xs (λ x. S .times a (f x))
+    pub times-over : (a : S .Value) (xs : List A) (f : A → S .Value) → S .times a (over S xs f) ≡ over S xs (λ x. S .times a (f x))
     times-over a [] f = times-zero-right a
     times-over a (x ∷ xs) f = S .times-plus _ _ _ ∙ ap (S .plus (S .times a (f x))) (times-over a xs f)
 
   -- the sequences by their first state
-  by-first : (n m : ℕ) (f : List ℕ → S .Value) → over S (sequences n (suc m)) f ≡ total S n (λ i. over S (sequences n m) (λ rest. f (i ∷ rest)))
+  pub by-first : (n m : ℕ) (f : List ℕ → S .Value) → over S (sequences n (suc m)) f ≡ total S n (λ i. over S (sequences n m) (λ rest. f (i ∷ rest)))
   by-first n m f = over-joined n _ f ∙ total-cong n _ _ (λ i h. over-map _ (sequences n m) f)
 
   -- the vector at a state is the sum over the sequences that follow it

@@ -16,11 +16,11 @@ use Rattle.kinds.specs.Numbers.{Numbers, checked}
 use Rattle.tables.specs.Path.{listed, sums, rows, at-state}
 
 -- ---- lists made place by place
-length-listed : {A : Type 0} (m : ℕ) (f : ℕ → A) → length (listed m f) ≡ m
+pub length-listed : {A : Type 0} (m : ℕ) (f : ℕ → A) → length (listed m f) ≡ m
 length-listed zero f = refl
 length-listed (suc m) f = omega (arith, length-append (listed m f) (f m ∷ []), length-listed m f)
 
-getD-listed : {A : Type 0} (m : ℕ) (f : ℕ → A) (d : A) (i : ℕ) → i < m → getD (listed m f) i d ≡ f i
+pub getD-listed : {A : Type 0} (m : ℕ) (f : ℕ → A) (d : A) (i : ℕ) → i < m → getD (listed m f) i d ≡ f i
 getD-listed zero f d i h = absurd (omega arith)
 getD-listed (suc m) f d i h =
     let long = length-listed m f in

@@ -9,7 +9,7 @@ use Rattle.std.specs.Results.{Cases}
 use Rattle.std.specs.declared.option.Option.{Option}
 use Rattle.std.specs.declared.option.Option.the-variants.{Some, None}
 use Rattle.std.specs.declared.result.Result.{Result}
-use Rattle.std.specs.declared.result.Result.the-variants.{Ok, Err}
+use Rattle.std.specs.declared.result.Result.the-variants.{Err}
 use Rattle.kinds.specs.declared.fault.Fault.{Fault}
 use Rattle.kinds.specs.declared.fault.Refusal.the-variants.{WordLength, NotAnEvent, StripLength}
 use Rattle.kinds.specs.Faults.{fault, unless, unless-found}

@@ -1,12 +1,12 @@
 //! What words weigh in tables.
 ghost use mathlib.Core.Path.{_≡_};
 ghost use mathlib.Core.Bool.{false};
-ghost use Prim.Native.Nat.{ℕ, _<_, _≤_};
+ghost use Prim.Native.Nat.{ℕ, _+_, _*_, _<_, _≤_};
 ghost use lib.Dec.{eqb};
 ghost use lib.ListN.{length};
 ghost use Rattle.std.specs.declared.option.Option.the-variants.{None};
 ghost use Rattle.std.specs.declared.result.Result.the-variants.{Ok};
-ghost use Rattle.tables.specs.Shape.{most-events, most-states};
+ghost use Rattle.tables.specs.Shape.{most-events, most-states, table-size};
 ghost use Rattle.tables.specs.Words.{events-of, Spelled};
 ghost use Rattle.tables.specs.Layout.{end-at, number-at, Stored};
 ghost use Rattle.tables.specs.Backward.{BackwardSumIsWeight};
@@ -53,7 +53,7 @@ pub fn clear<K: Kind>(strip: &mut [K])
 
 /// The sum of `count` products, of the run's numbers from `at` on and the strip's.
 fn dot<K: Kind>(run: &[K], at: usize, strip: &[K], count: usize) -> Result<K, Fault>
-    requires { ⌜ at ≤ 1000 ⌝ ∗ ⌜ count ≤ most-states ⌝ }
+    requires { ⌜ at ≤ table-size most-states most-events ⌝ ∗ ⌜ count ≤ most-states ⌝ }
     ensures { λ r. ⌜ DotSays (K·Kind .numbers) (now (run .entry)) at (now (strip .entry)) count r ⌝ }
 {
     let mut sum = K::zero();
@@ -68,7 +68,7 @@ fn dot<K: Kind>(run: &[K], at: usize, strip: &[K], count: usize) -> Result<K, Fa
 
 /// Writes the run's rows from `at` on, each times the strip's first vector, into its second.
 fn fill<K: Kind>(run: &[K], at: usize, states: usize, strip: &mut [K]) -> Result<(), Fault>
-    requires { ⌜ at ≤ 800 ⌝ ∗ ⌜ states ≤ most-states ⌝ ∗ ⌜ length (now strip) ≡ strip-size ⌝ }
+    requires { ⌜ at + most-states * most-states ≤ table-size most-states most-events ⌝ ∗ ⌜ states ≤ most-states ⌝ ∗ ⌜ length (now strip) ≡ strip-size ⌝ }
     ensures { λ r. ⌜ RowsStand (K·Kind .numbers) (now (run .entry)) at states (now (strip .entry)) (now (strip .exit)) r ⌝ }
 {
     for i in 0..states {

@@ -5,7 +5,6 @@ use native.Mathlib.Omega.{arith}
 use lib.ListN.{length, drop}
 use Rattle.std.proofs.shelf.Lists.{drop-all}
 use Rattle.std.proofs.shelf.Results.{err-from-errBy}
-use Rattle.std.specs.declared.result.Result.the-variants.{Ok}
 use Rattle.kinds.specs.Numbers.{Says}
 use Rattle.tables.specs.Words.{events-of}
 use Rattle.tables.specs.Layout.{end-at, number-at, value}

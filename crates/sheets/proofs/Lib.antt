@@ -1,0 +1,13 @@
+pub mod Totals
+pub mod Weighing
+pub mod Trying
+pub mod Fitting
+pub mod Standing
+pub mod Dotting
+pub mod Placing
+pub mod Grid
+pub mod Shaping
+pub mod Chain
+pub mod Deciding
+pub mod Meaning
+pub mod Telling
