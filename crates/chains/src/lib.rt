@@ -1,0 +1,5 @@
+//! Labeled Markov chains as tables of a book.
+pub mod chain;
+mod checks;
+pub mod laws;
+mod steps;
