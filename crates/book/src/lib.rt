@@ -1,4 +1,6 @@
 //! A book: a ledger, and a lent shelf that holds the numbers of its tables.
+#![tactic(auto)]
+
 mod asking;
 pub mod book;
 pub mod closing;

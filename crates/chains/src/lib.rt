@@ -1,4 +1,6 @@
 //! Labeled Markov chains as tables of a book.
+#![tactic(auto)]
+
 pub mod chain;
 mod checks;
 pub mod laws;

@@ -1,4 +1,6 @@
 //! The same program as merge, run on an input that shows each refusal of a count book.
+#![tactic(auto)]
+
 use exchange::run;
 use std::io;
 

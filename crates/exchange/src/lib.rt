@@ -1,4 +1,5 @@
 //! Lines from standard input, answered on standard output: a line opens a book, and the lines after it work on that book.
+#![tactic(auto)]
 
 use book::book::Book;
 use kinds::best::Best;

@@ -1,4 +1,6 @@
 //! The ledger of a book: a line for each table and a record for each part, in order of entry.
+#![tactic(auto)]
+
 pub mod asking;
 pub mod ledger;
 pub mod line;

@@ -1,4 +1,6 @@
 //! merge answers the lines of standard input. It is run on a session that tells two tables apart.
+#![tactic(auto)]
+
 use exchange::run;
 use std::io;
 

@@ -1,4 +1,6 @@
 //! merge once more, run on lines most of which are refused.
+#![tactic(auto)]
+
 use exchange::run;
 use std::io;
 

@@ -1,4 +1,6 @@
 //! Lines on a book: opening one by a line, and what the lines behind it ask of it.
+#![tactic(auto)]
+
 mod asking;
 pub mod chaining;
 pub mod opening;

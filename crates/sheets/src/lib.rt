@@ -1,4 +1,6 @@
 //! Sheets: certificates that two tables weigh every word alike, and their check.
+#![tactic(auto)]
+
 mod form;
 mod places;
 mod rules;

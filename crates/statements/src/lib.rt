@@ -1,2 +1,4 @@
 //! What a line asks of an open book.
+#![tactic(auto)]
+
 pub mod statements;

@@ -1,4 +1,5 @@
 //! Tables in a book whose weights and joins were worked out by hand.
+#![tactic(auto)]
 
 #[cfg(test)]
 mod closing;

@@ -1,4 +1,6 @@
 //! The same program as merge, run on two shops' price tables for a week.
+#![tactic(auto)]
+
 use exchange::run;
 use std::io;
 

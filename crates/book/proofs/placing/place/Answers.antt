@@ -14,9 +14,9 @@ returns g c =
     let l = c.args.ledger.now in
     let m = view l in
     let run = c.args.run.now in
-    let s = c.in-ok-states.states.count in
-    let is-size : c.table-size.result ≡ table_size s l.events.count = c.table-size.ensures.is ∙ ap (λ e. table_size s e.count) c.events.ensures in
-    let decided = place_decides n m c.args.room c.args.states run s c.table-size.result c.in-ok-states.ensures is-size c.in-ok-check-run.ensures in
+    let s = c.in_ok-states.states.count in
+    let is-size : c.table_size.result ≡ table_size s l.events.count = c.table_size.ensures.is ∙ ap (λ e. table_size s e.count) c.events.ensures in
+    let decided = place_decides n m c.args.room c.args.states run s c.table_size.result c.in_ok-states.ensures is-size c.in_ok-check_run.ensures in
     let fault : no_place m.events m.lines s c.args.room ≡ enter_fault n m c.args.room c.args.states run = ap (λ i. no_place m.events m.lines i c.args.room) decided.0 ∙ sym decided.1 in
     let answer = c.append.ensures.answer ∙ ap (λ o. or_refused o (record { table = length m.lines + 1; place = 1 + used m.events m.lines })) fault in
     record {

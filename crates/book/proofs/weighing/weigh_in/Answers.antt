@@ -5,9 +5,9 @@ use Rattle.book.proofs.weighing.weigh_in.Goals as goal
 
 pub returns : goal.returns
 returns g c =
-    let weighed = c.weigh-table-weight.ensures.answer in
+    let weighed = c.weigh_table-weight.ensures.answer in
     record {
       answer = weighed;
       strip = search rules;
-      leads = weigh_leads g.K.Kind.numbers (view c.args.ledger.now) c.args.shelf.now c.args.table c.args.word.now c.args.strip.now c.weigh-table-weight.result weighed;
+      leads = weigh_leads g.K.Kind.numbers (view c.args.ledger.now) c.args.shelf.now c.args.table c.args.word.now c.args.strip.now c.weigh_table-weight.result weighed;
     }

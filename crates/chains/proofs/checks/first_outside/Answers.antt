@@ -9,19 +9,19 @@ use Rattle.chains.specs.Refusals.{in_scale, first_outside}
 use Rattle.chains.proofs.Bounds.{in_scale_bounded}
 use Rattle.chains.proofs.checks.first_outside.Goals as goal
 
-pub returns-then-not-in-scale : goal.returns-then-not-in-scale
-returns-then-not-in-scale c =
+pub returns-then-not-in_scale : goal.returns-then-not-in_scale
+returns-then-not-in_scale c =
     let numbers = c.args.numbers.now in
     let i = c.loop-i.i in
     let x = number_at counts numbers i in
-    record { value = sym (first_here (in_scale c.args.scale) numbers i x c.loop-i-test.true (get_or_default numbers i (zero_of counts) x c.loop-i-test.true) (sym c.if-not-in-scale.ensures)) ∙ c.loop-i.invariant; bounded = tt }
+    record { value = sym (first_here (in_scale c.args.scale) numbers i x c.loop-i-test.true (get_or_default numbers i (zero_of counts) x c.loop-i-test.true) (sym c.if-not-in_scale.ensures)) ∙ c.loop-i.invariant; bounded = tt }
 
 pub loop-i-preserved : goal.loop-i-preserved
 loop-i-preserved c =
     let numbers = c.args.numbers.now in
     let i = c.loop-i.i in
     let x = number_at counts numbers i in
-    first_later (in_scale c.args.scale) numbers i x c.loop-i-test.true (get_or_default numbers i (zero_of counts) x c.loop-i-test.true) (sym c.if-not-in-scale.ensures) ∙ c.loop-i.invariant
+    first_later (in_scale c.args.scale) numbers i x c.loop-i-test.true (get_or_default numbers i (zero_of counts) x c.loop-i-test.true) (sym c.if-not-in_scale.ensures) ∙ c.loop-i.invariant
 
 pub returns : goal.returns
 returns c =

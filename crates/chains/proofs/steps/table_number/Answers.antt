@@ -15,11 +15,11 @@ returns-then-place-n-2 c k size =
     let at : c.args.place ≡ n + (c.args.place - n) = omega arith in
     sym (ap (number_at counts (chain_run n c.args.letters.now c.args.numbers.now k)) at ∙ end_stands n c.args.letters.now c.args.numbers.now k (c.args.place - n) (omega arith))
 
-pub nonzero-div-event : goal.nonzero-div-event
-nonzero-div-event c = square_some c.args.n c.requires.some
+pub nonzero_div-event : goal.nonzero_div-event
+nonzero_div-event c = square_some c.args.n c.requires.some
 
-pub nonzero-rem-rest : goal.nonzero-rem-rest
-nonzero-rem-rest c = square_some c.args.n c.requires.some
+pub nonzero_rem-rest : goal.nonzero_rem-rest
+nonzero_rem-rest c = square_some c.args.n c.requires.some
 
 pub bounds-letters-from : goal.bounds-letters-from
 bounds-letters-from c = omega (arith, state_below c.args.n (c.args.place - 2 * c.args.n) c.requires.some, c.requires.lettered)

@@ -12,7 +12,7 @@ pub loop-place-preserved : goal.loop-place-preserved
 loop-place-preserved c k size =
     let run = chain_run c.args.n c.args.letters.now c.args.numbers.now k in
     let room : c.loop-place.place < length c.loop-place.output = omega arith in
-    laid_more counts c.loop-place.output c.loop-place.place c.table-number.result (number_at counts run) room (c.loop-place.invariant k size) (c.table-number.ensures k (omega arith))
+    laid_more counts c.loop-place.output c.loop-place.place c.table_number.result (number_at counts run) room (c.loop-place.invariant k size) (c.table_number.ensures k (omega arith))
 
 pub returns : goal.returns
 returns c k size =

@@ -8,9 +8,9 @@ use Rattle.serving.proofs.asking.word_of.Goals as goal
 pub returns : goal.returns
 returns g c =
     let ledger = c.args.book.now.ledger in
-    let told = c.in-ok-count.ensures in
+    let told = c.in_ok-count.ensures in
     λ has. letters_shown ledger.events.count ledger.tables ledger.events.few (view ledger).parts ledger.parted c.args.part has (replicate longest_word 0) refl
-    c.in-ok-count.count
+    c.in_ok-count.count
     c.word.new.run
     (letters c.new.result)
     told.answer

@@ -21,9 +21,9 @@ returns g c =
     let is : size ≡ room = c.room-size.ensures.value ∙ ap (λ e. room_for states e.count (length table)) c.events.ensures in
     let long = front_long table size room is c.room-size.ensures.within in
     record {
-      reply = c.enter-chain.ensures.reply ∙ ap (λ s. chain_answer n by m shelf s states scale letters numbers) long;
-      ledger = c.enter-chain.ensures.ledger ∙ ap (λ s. chain_ledger n by m shelf s states scale letters numbers) long;
-      shelf = c.enter-chain.ensures.shelf ∙ ap (λ s. chain_shelf n by m shelf s states scale letters numbers) long;
-      table = front_written table size room is c.room-size.ensures.within (λ s. by.refuses m.events states scale letters numbers s) (by.converted m.events states letters numbers) c.enter-chain.new.table _ c.enter-chain.ensures.table refl;
-      entries = c.enter-chain.ensures.entries;
+      reply = c.enter_chain.ensures.reply ∙ ap (λ s. chain_answer n by m shelf s states scale letters numbers) long;
+      ledger = c.enter_chain.ensures.ledger ∙ ap (λ s. chain_ledger n by m shelf s states scale letters numbers) long;
+      shelf = c.enter_chain.ensures.shelf ∙ ap (λ s. chain_shelf n by m shelf s states scale letters numbers) long;
+      table = front_written table size room is c.room-size.ensures.within (λ s. by.refuses m.events states scale letters numbers s) (by.converted m.events states letters numbers) c.enter_chain.new.table _ c.enter_chain.ensures.table refl;
+      entries = c.enter_chain.ensures.entries;
     }

@@ -15,7 +15,7 @@ returns-then-cancels g c =
     record {
       vectors = one_to_from most_vectors page.vectors (omega arith) (omega arith);
       count = eq-eqb _ _ (omega arith);
-      entries = sym c.first-other.ensures.value ∙ c.in-default.is;
+      entries = sym c.first_other.ensures.value ∙ c.in_default.is;
     } in
     record {
       answer = scale_asked N page.run.now page.events page.width page.vectors right c.number.ensures c.cancels.ensures _ (sym (ap (λ t. or_refused (unless t (fault ScaleDoesNotCancel) None) tt) c.if-cancels.true));
@@ -30,7 +30,7 @@ returns-else-cancels g c =
     record {
       vectors = one_to_from most_vectors page.vectors (omega arith) (omega arith);
       count = eq-eqb _ _ (omega arith);
-      entries = sym c.first-other.ensures.value ∙ c.in-default.is;
+      entries = sym c.first_other.ensures.value ∙ c.in_default.is;
     } in
     record {
       answer = scale_asked N page.run.now page.events page.width page.vectors right c.number.ensures c.cancels.ensures _ (ap Err c.of-else-cancels.ensures ∙ sym (ap (λ t. or_refused (unless t (fault ScaleDoesNotCancel) None) tt) c.if-cancels.false));

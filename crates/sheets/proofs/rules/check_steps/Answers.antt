@@ -7,13 +7,13 @@ use Rattle.sheets.proofs.rules.check_steps.Goals as goal
 
 pub returns-then-not-branch : goal.returns-then-not-branch
 returns-then-not-branch g c = λ ha hb hp.
-    let here = same_ok (c.step-holds.ensures ha hb hp) c.in-ok-step-holds.was in
+    let here = same_ok (c.step_holds.ensures ha hb hp) c.in_ok-step_holds.was in
     let found = first_found _ (c.args.page.events * c.args.page.vectors) c.loop-place.place c.loop-place-test.true (c.loop-place.invariant ha hb hp) (sym here ∙ c.if-not-branch.true) in
     ap Err c.at.ensures ∙ sym (ap (λ o. or_refused (unless_found o StepRuleFails None) tt) found)
 
 pub loop-place-preserved : goal.loop-place-preserved
 loop-place-preserved g c = λ ha hb hp.
-    let here = same_ok (c.step-holds.ensures ha hb hp) c.in-ok-step-holds.was in
+    let here = same_ok (c.step_holds.ensures ha hb hp) c.in_ok-step_holds.was in
     first_more _ c.loop-place.place (c.loop-place.invariant ha hb hp) (sym here ∙ c.if-not-branch.false)
 
 pub returns : goal.returns

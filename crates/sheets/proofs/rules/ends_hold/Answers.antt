@@ -5,12 +5,12 @@ use Rattle.sheets.proofs.rules.ends_hold.Goals as goal
 
 pub returns-then-not-branch : goal.returns-then-not-branch
 returns-then-not-branch g c = λ hr hp.
-    let here = same_ok (c.end-holds.ensures hr hp) c.in-ok-end-holds.was in
+    let here = same_ok (c.end_holds.ensures hr hp) c.in_ok-end_holds.was in
     sym (ap Ok (every_fails _ c.args.side.states c.loop-row.row c.loop-row-test.true (sym here ∙ c.if-not-branch.true)))
 
 pub loop-row-preserved : goal.loop-row-preserved
 loop-row-preserved g c = λ hr hp.
-    let here = same_ok (c.end-holds.ensures hr hp) c.in-ok-end-holds.was in
+    let here = same_ok (c.end_holds.ensures hr hp) c.in_ok-end_holds.was in
     every_more _ c.loop-row.row (c.loop-row.invariant hr hp) (sym here ∙ c.if-not-branch.false)
 
 pub returns : goal.returns

@@ -17,4 +17,4 @@ returns g c steps held =
     let N = g.K.Kind.numbers in
     let n = c.args.states in
     moved N n _ (second N c.fill.new.strip) (number_at N c.lower.new.strip) c.lower.ensures
-    (stands_ok N n (second N c.fill.new.strip) (c.fill.ensures steps held) c.in-ok-fill.was)
+    (stands_ok N n (second N c.fill.new.strip) (c.fill.ensures steps held) c.in_ok-fill.was)

@@ -14,21 +14,21 @@ dot-requires g c =
     let h : c.loop-i.i * c.args.states ≤ most_states * most_states = mul-le-mul low few in
     search rules
 
-pub offset-bounds-strip-i : goal.offset-bounds-strip-i
-offset-bounds-strip-i g c =
+pub offset_bounds-strip-i : goal.offset_bounds-strip-i
+offset_bounds-strip-i g c =
     let room : most_states + c.loop-i.i < length c.args.strip.now = omega arith in
     search rules
 
-pub returns-in-err-x : goal.returns-in-err-x
-returns-in-err-x g c rows held =
+pub returns-in_err-x : goal.returns-in_err-x
+returns-in_err-x g c rows held =
     let N = g.K.Kind.numbers in
-    let p = err_from_is_err_and c.from-residual.result c.from-residual.ensures.1 in
+    let p = err_from_is_err_and c.from_residual.result c.from_residual.ensures.1 in
     let n = c.args.states in
     let i = c.loop-i.i in
     let was = c.args.strip.now in
     let f = λ (i : ℕ). dotted N c.args.run.now (c.args.at + i * n) was n in
     let few : n ≤ most_states = omega arith in
-    let q = says_err N _ (row_says N c.args.run.now (c.args.at + i * n) n c.loop-i.strip was _ few c.loop-i.invariant.0 c.dot.ensures (rows i c.loop-i-test.true) held) c.in-err-x.was in
+    let q = says_err N _ (row_says N c.args.run.now (c.args.at + i * n) n c.loop-i.strip was _ few c.loop-i.invariant.0 c.dot.ensures (rows i c.loop-i-test.true) held) c.in_err-x.was in
     let so_far = c.loop-i.invariant.1 rows held in
     rw (p.1, p.2) (rows_stop N i n f (λ j. N.read (second N c.loop-i.strip j)) _ c.loop-i-test.true (λ j h. (so_far j h).0) q)
 
@@ -44,7 +44,7 @@ loop-i-preserved g c =
       first_kept N c.loop-i.strip was i _ c.loop-i.invariant.0,
       λ rows held.
           filled_more N f c.loop-i.strip i _ room (c.loop-i.invariant.1 rows held)
-          (says_ok N _ (row_says N c.args.run.now (c.args.at + i * n) n c.loop-i.strip was _ few c.loop-i.invariant.0 c.dot.ensures (rows i c.loop-i-test.true) held) c.in-ok-x.was),
+          (says_ok N _ (row_says N c.args.run.now (c.args.at + i * n) n c.loop-i.strip was _ few c.loop-i.invariant.0 c.dot.ensures (rows i c.loop-i-test.true) held) c.in_ok-x.was),
     )
 
 pub returns : goal.returns

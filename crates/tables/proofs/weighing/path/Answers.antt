@@ -27,29 +27,29 @@ loop-i-preserved g c stored =
     let run = c.args.run.now in
     let word = c.args.word.now in
     let i = c.loop-i.i in
-    let e = c.event-of-event.result in
+    let e = c.event_of-event.result in
     let so_far = c.loop-i.invariant stored in
     let low : 0 < i = omega arith in
     let high : i ≤ length word = omega arith in
-    let steps = steps_stored N n run word i e low high c.event-of-event.ensures stored in
-    let q = stands_ok N n (number_at N c.apply.new.strip) (c.apply.ensures steps so_far.1) c.in-ok-apply.was in
-    (backward_step N n run word i e low high c.event-of-event.ensures (value N c.loop-i.strip) so_far.0 ∙ q.0, q.1)
+    let steps = steps_stored N n run word i e low high c.event_of-event.ensures stored in
+    let q = stands_ok N n (number_at N c.apply.new.strip) (c.apply.ensures steps so_far.1) c.in_ok-apply.was in
+    (backward_step N n run word i e low high c.event_of-event.ensures (value N c.loop-i.strip) so_far.0 ∙ q.0, q.1)
 
-pub returns-in-err-apply : goal.returns-in-err-apply
-returns-in-err-apply g c stored =
+pub returns-in_err-apply : goal.returns-in_err-apply
+returns-in_err-apply g c stored =
     let N = g.K.Kind.numbers in
-    let p = err_from_is_err_and c.from-residual.result c.from-residual.ensures.1 in
+    let p = err_from_is_err_and c.from_residual.result c.from_residual.ensures.1 in
     let n = c.args.states in
     let run = c.args.run.now in
     let word = c.args.word.now in
     let i = c.loop-i.i in
-    let e = c.event-of-event.result in
+    let e = c.event_of-event.result in
     let so_far = c.loop-i.invariant stored in
     let low : 0 < i = omega arith in
     let high : i ≤ length word = omega arith in
-    let steps = steps_stored N n run word i e low high c.event-of-event.ensures stored in
-    let q = stands_err N n (number_at N c.apply.new.strip) (c.apply.ensures steps so_far.1) c.in-err-apply.was in
-    rw (p.1, p.2) (path_err N n (value N run) (events_of word) _ (backward_up N n (value N run) word (i - 1) _ (backward_step N n run word i e low high c.event-of-event.ensures (value N c.loop-i.strip) so_far.0 ∙ q)))
+    let steps = steps_stored N n run word i e low high c.event_of-event.ensures stored in
+    let q = stands_err N n (number_at N c.apply.new.strip) (c.apply.ensures steps so_far.1) c.in_err-apply.was in
+    rw (p.1, p.2) (path_err N n (value N run) (events_of word) _ (backward_up N n (value N run) word (i - 1) _ (backward_step N n run word i e low high c.event_of-event.ensures (value N c.loop-i.strip) so_far.0 ∙ q)))
 
 pub returns : goal.returns
 returns g c stored =

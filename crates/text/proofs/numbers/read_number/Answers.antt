@@ -7,7 +7,7 @@ use Rattle.text.proofs.Decimals.{reading_law}
 use Rattle.text.proofs.numbers.read_number.Goals as goal
 
 pub returns-in-45 : goal.returns-in-45
-returns-in-45 c = let value : reading.Hyphen ≡ reading_of c.args.field.now = search rules in record { value = value; decimal-text = reading_law _ _ value }
+returns-in-45 c = let value : reading.Hyphen ≡ reading_of c.args.field.now = search rules in record { value = value; decimal_text = reading_law _ _ value }
 
 pub returns-in-45-2 : goal.returns-in-45-2
 returns-in-45-2 c =
@@ -15,8 +15,8 @@ returns-in-45-2 c =
     let more : 1 < length s = omega (arith, ltb-false) in
     let minus : get_or s 0 0 ≡ 45 = search rules in
     let rest = between_to_end s 1 (length s) (omega arith) in
-    let value = c.behind-minus.ensures ∙ ap negative (c.magnitude.ensures.value ∙ ap magnitude_of rest) ∙ sym (reading_minus s more minus) in
-    record { value = value; decimal-text = reading_law s _ value }
+    let value = c.behind_minus.ensures ∙ ap negative (c.magnitude.ensures.value ∙ ap magnitude_of rest) ∙ sym (reading_minus s more minus) in
+    record { value = value; decimal_text = reading_law s _ value }
 
-pub returns-in-default : goal.returns-in-default
-returns-in-default c = let value : c.without-sign.result ≡ reading_of c.args.field.now = search rules in record { value = value; decimal-text = reading_law _ _ value }
+pub returns-in_default : goal.returns-in_default
+returns-in_default c = let value : c.without_sign.result ≡ reading_of c.args.field.now = search rules in record { value = value; decimal_text = reading_law _ _ value }

@@ -17,5 +17,5 @@ returns g c =
       shelf = refl;
       leads = ask_leads n m shelf c.args.a c.args.b c.ask.result c.ask.ensures;
       law = subst (LawAt n (at m shelf) c.args.a c.args.b) (sym c.ask.ensures) (law_at n (at m shelf) c.args.a c.args.b);
-      every-use = law_of_uses n;
+      every_use = law_of_uses n;
     }

@@ -10,16 +10,16 @@ use Rattle.uses.specs.History.{LeadsOn}
 use Rattle.uses.proofs.Leading.{join_leads}
 use Rattle.book.proofs.book.Book.join.Goals as goal
 
-pub returns-in-err-check-join : goal.returns-in-err-check-join
-returns-in-err-check-join g c =
+pub returns-in_err-check_join : goal.returns-in_err-check_join
+returns-in_err-check_join g c =
     let n = g.K.Kind.numbers in
     let m = view c.args.self.now.ledger in
     let shelf = c.args.self.now.shelf.now in
     let sheet = c.args.sheet.now in
-    let f = c.in-err-check-join.field-0.0 in
-    let told = c.in-err-check-join.ensures in
-    let p = err_from_is_err_and c.from-residual.result c.from-residual.ensures.1 in
-    let is : c.from-residual.result ≡ Err c.in-err-check-join.field-0.0 = p.1 ∙ ap Err p.2 in
+    let f = c.in_err-check_join.field-0.0 in
+    let told = c.in_err-check_join.ensures in
+    let p = err_from_is_err_and c.from_residual.result c.from_residual.ensures.1 in
+    let is : c.from_residual.result ≡ Err c.in_err-check_join.field-0.0 = p.1 ∙ ap Err p.2 in
     record {
       early = subst (EarlyJoin n m shelf c.args.a c.args.b c.args.vectors sheet) (sym is) told.early;
       answer = λ e. subst (λ r. Joined n m shelf c.args.a c.args.b c.args.vectors sheet r m) (sym is) (refused_joined n m shelf c.args.a c.args.b c.args.vectors sheet f (told.answer e));
@@ -39,7 +39,7 @@ returns g c =
     let sheet = c.args.sheet.now in
     let a = c.args.a in
     let b = c.args.b in
-    let told = c.in-ok-check-join.ensures in
+    let told = c.in_ok-check_join.ensures in
     let two = told.two refl in
     let after : view c.merge.new.self ≡ with_merged m a b =
     ap (λ e. record { events = e.count; lines = (view c.merge.new.self).lines; parts = (view c.merge.new.self).parts }) c.merge.ensures.events

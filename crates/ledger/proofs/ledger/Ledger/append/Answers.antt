@@ -8,8 +8,8 @@ use Rattle.ledger.specs.Stored.{meanings}
 use Rattle.ledger.proofs.Keeping.{parted_more}
 use Rattle.ledger.proofs.ledger.Ledger.append.Goals as goal
 
-pub invariant-of-self : goal.invariant-of-self
-invariant-of-self c =
+pub invariant_of-self : goal.invariant_of-self
+invariant_of-self c =
     let l = c.args.self.now in
     let k = l.events.count in
     let n = l.tables in
@@ -37,7 +37,7 @@ returns c =
     let size : length (take n all) ≡ n = length-take-le n all (omega arith) in
     let more : length (take n all) < most_tables = omega arith in
     let behind : u ≡ used k (take n all) = c.used-used.ensures.is in
-    let wide : c.table-size.result ≡ table_size s.count k = c.table-size.ensures.is in
+    let wide : c.table_size.result ≡ table_size s.count k = c.table_size.ensures.is in
     let left : used k (take n all) + table_size s.count k ≤ c.args.shelf = omega arith in
     record {
       answer = placed_answer k ls s.count c.args.shelf more left n u size behind;

@@ -3,30 +3,30 @@ use Rattle.std.proofs.lemmas.Result.{err_from_is_err_and}
 use Rattle.ledger.proofs.Held.{after_parted, after_whole, ledger_is_full, word_is_kept, word_is_refused, writes}
 use Rattle.ledger.proofs.ledger.Ledger.keep.Goals as goal
 
-pub returns-in-err-admit-word : goal.returns-in-err-admit-word
-returns-in-err-admit-word c =
-    let f = c.in-err-admit-word.field-0.0 in
-    let p = err_from_is_err_and c.from-residual-in-err-admit-word.result c.from-residual-in-err-admit-word.ensures.1 in
-    let is : c.from-residual-in-err-admit-word.result ≡ Err c.in-err-admit-word.field-0.0 = p.1 ∙ ap Err p.2 in
-    let says = word_is_refused c.args.self.now c.args.a c.args.b c.args.word.now _ c.in-ok-two-tables.ensures f c.in-err-admit-word.ensures in
+pub returns-in_err-admit_word : goal.returns-in_err-admit_word
+returns-in_err-admit_word c =
+    let f = c.in_err-admit_word.field-0.0 in
+    let p = err_from_is_err_and c.from_residual-in_err-admit_word.result c.from_residual-in_err-admit_word.ensures.1 in
+    let is : c.from_residual-in_err-admit_word.result ≡ Err c.in_err-admit_word.field-0.0 = p.1 ∙ ap Err p.2 in
+    let says = word_is_refused c.args.self.now c.args.a c.args.b c.args.word.now _ c.in_ok-two_tables.ensures f c.in_err-admit_word.ensures in
     record { answer = is ∙ says.answer; parts = says.parts; lines = refl; events = refl; refused = rw is refl }
 
-pub returns-then-kept-ge-MOST-PARTS : goal.returns-then-kept-ge-MOST-PARTS
-returns-then-kept-ge-MOST-PARTS c =
-    let says = ledger_is_full c.args.self.now c.args.a c.args.b c.args.word.now _ c.in-ok-two-tables.ensures c.in-ok-admit-word.ensures c.if-kept-ge-MOST-PARTS.true in
+pub returns-then-kept-ge-MOST_PARTS : goal.returns-then-kept-ge-MOST_PARTS
+returns-then-kept-ge-MOST_PARTS c =
+    let says = ledger_is_full c.args.self.now c.args.a c.args.b c.args.word.now _ c.in_ok-two_tables.ensures c.in_ok-admit_word.ensures c.if-kept-ge-MOST_PARTS.true in
     record { answer = ap Err c.of.ensures ∙ says.answer; parts = says.parts; lines = refl; events = refl; refused = refl }
 
 pub write-requires : goal.write-requires
-write-requires c = writes c.args.self.now c.args.a c.args.b c.args.word.now _ c.in-ok-two-tables.ensures c.in-ok-admit-word.ensures c.if-kept-ge-MOST-PARTS.false
+write-requires c = writes c.args.self.now c.args.a c.args.b c.args.word.now _ c.in_ok-two_tables.ensures c.in_ok-admit_word.ensures c.if-kept-ge-MOST_PARTS.false
 
-pub invariant-of-self : goal.invariant-of-self
-invariant-of-self c =
+pub invariant_of-self : goal.invariant_of-self
+invariant_of-self c =
     let l = c.args.self.now in
-    let whole = after_whole l c.args.a c.args.b c.args.word.now _ c.in-ok-two-tables.ensures c.in-ok-admit-word.ensures c.if-kept-ge-MOST-PARTS.false c.write.new.self.all c.write.ensures in
-    let parted = after_parted l c.args.a c.args.b c.args.word.now _ c.in-ok-two-tables.ensures c.in-ok-admit-word.ensures c.if-kept-ge-MOST-PARTS.false c.write.new.self.all c.write.ensures in
+    let whole = after_whole l c.args.a c.args.b c.args.word.now _ c.in_ok-two_tables.ensures c.in_ok-admit_word.ensures c.if-kept-ge-MOST_PARTS.false c.write.new.self.all c.write.ensures in
+    let parted = after_parted l c.args.a c.args.b c.args.word.now _ c.in_ok-two_tables.ensures c.in_ok-admit_word.ensures c.if-kept-ge-MOST_PARTS.false c.write.new.self.all c.write.ensures in
     (l.few, (l.full, (l.named, (l.sized, (l.packed, (omega arith, (whole, (parted, tt))))))))
 
 pub returns : goal.returns
 returns c =
-    let says = word_is_kept c.args.self.now c.args.a c.args.b c.args.word.now _ c.in-ok-two-tables.ensures c.in-ok-admit-word.ensures c.if-kept-ge-MOST-PARTS.false c.write.new.self.all c.write.ensures in
+    let says = word_is_kept c.args.self.now c.args.a c.args.b c.args.word.now _ c.in_ok-two_tables.ensures c.in_ok-admit_word.ensures c.if-kept-ge-MOST_PARTS.false c.write.new.self.all c.write.ensures in
     record { answer = says.answer; parts = says.parts; lines = refl; events = refl; refused = tt }

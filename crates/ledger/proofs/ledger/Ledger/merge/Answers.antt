@@ -8,8 +8,8 @@ use Rattle.tables.proofs.Limits.{one_to_from}
 use Rattle.ledger.proofs.Merging.{held_as_many, held_merged, sound_merged}
 use Rattle.ledger.proofs.ledger.Ledger.merge.Goals as goal
 
-pub invariant-of-self : goal.invariant-of-self
-invariant-of-self c =
+pub invariant_of-self : goal.invariant_of-self
+invariant_of-self c =
     let l = c.args.self.now in
     let n = l.tables in
     let all = l.lines.all in

@@ -14,15 +14,15 @@ held l i low high = line_held l.events.count l.tables l.lines.all i low high (le
 passes : (l : Ledger) (i : ℕ) → 1 ≤ i → i ≤ l.tables → states_answer (get_or l.lines.all (i - 1) blank).states ≡ Ok (get_or l.lines.all (i - 1) blank).states
 passes l i low high = let s = (get_or l.lines.all (i - 1) blank).states in ap (λ b. cond b (Ok s) (Err (fault StateCount))) (held l i low high).sized
 
-pub returns-in-err-states : goal.returns-in-err-states
-returns-in-err-states c =
+pub returns-in_err-states : goal.returns-in_err-states
+returns-in_err-states c =
     let p = passes c.args.self.now c.args.table (omega arith) (omega arith) in
-    let e = c.in-err-states.ensures in
+    let e = c.in_err-states.ensures in
     let z : ◌≡◌ {A = ℕ} 0 1 = cc in
     absurd (omega arith)
 
-pub overflow-sub-result : goal.overflow-sub-result
-overflow-sub-result c = (held c.args.self.now c.args.table (omega arith) (omega arith)).begins
+pub overflow_sub-result : goal.overflow_sub-result
+overflow_sub-result c = (held c.args.self.now c.args.table (omega arith) (omega arith)).begins
 
 pub returns : goal.returns
 returns c =
@@ -31,12 +31,12 @@ returns c =
     let high : c.args.table ≤ l.tables = omega arith in
     let h = held l c.args.table low high in
     let p = passes l c.args.table low high in
-    let e = c.in-ok-states.ensures in
-    let same : c.in-ok-states.states.count ≡ (get_or l.lines.all (c.args.table - 1) blank).states = cc in
+    let e = c.in_ok-states.ensures in
+    let same : c.in_ok-states.states.count ≡ (get_or l.lines.all (c.args.table - 1) blank).states = cc in
     let states = same ∙ ap (λ x. x.states) (sym h.is) in
     record {
       there = h.there;
       states = states;
       at = ap (λ x. x.place - 1) (sym h.is);
-      size = c.table-size.ensures.is ∙ ap (λ s. table_size s l.events.count) states;
+      size = c.table_size.ensures.is ∙ ap (λ s. table_size s l.events.count) states;
     }

@@ -25,11 +25,11 @@ returns-then-part-lt1 c =
     let says = no_such_part ps c.args.part c.args.run.now outside in
     record { answer = ap Err c.of.ensures ∙ says.answer; run = says.copied }
 
-pub returns-then-run-ne-LONGEST-WORD : goal.returns-then-run-ne-LONGEST-WORD
-returns-then-run-ne-LONGEST-WORD c =
+pub returns-then-run-ne-LONGEST_WORD : goal.returns-then-run-ne-LONGEST_WORD
+returns-then-run-ne-LONGEST_WORD c =
     let l = c.args.self.now in
-    let says = other_length (meanings l.kept l.parts.all) c.args.part c.args.run.now (there l c.args.part c.if-part-lt1.false c.if-part-self.false) c.if-run-ne-LONGEST-WORD.true in
-    record { answer = ap Err c.of-then-run-ne-LONGEST-WORD.ensures ∙ says.answer; run = says.copied }
+    let says = other_length (meanings l.kept l.parts.all) c.args.part c.args.run.now (there l c.args.part c.if-part-lt1.false c.if-part-self.false) c.if-run-ne-LONGEST_WORD.true in
+    record { answer = ap Err c.of-then-run-ne-LONGEST_WORD.ensures ∙ says.answer; run = says.copied }
 
 pub returns : goal.returns
 returns c =
@@ -37,7 +37,7 @@ returns c =
     let p = c.args.part in
     let held = meaning_held l.kept l.parts.all p c.index-self-part.result c.if-part-lt1.false c.if-part-self.false (parts_fit l) in
     let says =
-    word_copied (meanings l.kept l.parts.all) p c.args.run.now (there l p c.if-part-lt1.false c.if-part-self.false) c.if-run-ne-LONGEST-WORD.false c.spell.result c.spell.new.run
+    word_copied (meanings l.kept l.parts.all) p c.args.run.now (there l p c.if-part-lt1.false c.if-part-self.false) c.if-run-ne-LONGEST_WORD.false c.spell.result c.spell.new.run
     (c.spell.ensures.length ∙ sym (ap (λ q. length q.word) held))
     (c.spell.ensures.run ∙ sym (ap (λ q. spelled q.word) held)) in
     record { answer = says.answer; run = says.copied }

@@ -2,8 +2,8 @@ use Rattle.std.proofs.Common.{refl}
 use Rattle.ledger.proofs.Spelling.{stored_word, stored_whole, stored_few}
 use Rattle.ledger.proofs.part.Part.write.Goals as goal
 
-pub invariant-of-self : goal.invariant-of-self
-invariant-of-self c =
+pub invariant_of-self : goal.invariant_of-self
+invariant_of-self c =
     let word = c.args.word.now in
     let stored = c.stored-self.result in
     let is = c.stored-self.ensures in

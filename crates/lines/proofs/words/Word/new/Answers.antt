@@ -3,5 +3,5 @@ use Rattle.lines.proofs.Zeros.{zeros_ascii}
 use Rattle.lines.proofs.words.Word.new.Goals as goal
 
 -- no letters, over zeros
-pub invariant-of-result : goal.invariant-of-result
-invariant-of-result c = (omega arith, (refl, (zeros_ascii 64, tt)))
+pub invariant_of-result : goal.invariant_of-result
+invariant_of-result c = (omega arith, (refl, (zeros_ascii 64, tt)))
