@@ -21,7 +21,16 @@ invariant_of-self c =
     held_sound k n all room s.count c.count.result c.count.ensures c.used-used.result c.used-used.ensures.is after c.write.ensures s.some s.few
     (record { named = l.named; sized = l.sized; packed = l.packed }) in
     let whole = held_all k n all room s.count c.count.result c.count.ensures c.used-used.result c.used-used.ensures.is after c.write.ensures in
-    (omega arith, (whole ∙ l.full, (sound.named, (sound.sized, (sound.packed, (l.spare, (l.records, (parted_more k n (meanings l.kept l.parts.all) l.parted, tt))))))))
+    record {
+      few = omega arith;
+      full = whole ∙ l.full;
+      named = sound.named;
+      sized = sound.sized;
+      packed = sound.packed;
+      spare = l.spare;
+      records = l.records;
+      parted = parted_more k n (meanings l.kept l.parts.all) l.parted;
+    }
 
 pub returns : goal.returns
 returns c =

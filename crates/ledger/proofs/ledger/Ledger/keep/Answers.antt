@@ -24,7 +24,16 @@ invariant_of-self c =
     let l = c.args.self.now in
     let whole = after_whole l c.args.a c.args.b c.args.word.now _ c.in_ok-two_tables.ensures c.in_ok-admit_word.ensures c.if-kept-ge-MOST_PARTS.false c.write.new.self.all c.write.ensures in
     let parted = after_parted l c.args.a c.args.b c.args.word.now _ c.in_ok-two_tables.ensures c.in_ok-admit_word.ensures c.if-kept-ge-MOST_PARTS.false c.write.new.self.all c.write.ensures in
-    (l.few, (l.full, (l.named, (l.sized, (l.packed, (omega arith, (whole, (parted, tt))))))))
+    record {
+      few = l.few;
+      full = l.full;
+      named = l.named;
+      sized = l.sized;
+      packed = l.packed;
+      spare = omega arith;
+      records = whole;
+      parted = parted;
+    }
 
 pub returns : goal.returns
 returns c =

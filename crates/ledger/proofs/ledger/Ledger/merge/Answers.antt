@@ -24,7 +24,16 @@ invariant_of-self c =
     let lo : c.min.result ≡ min (class_of (take n all) a) (class_of (take n all) b) = omega (arith, c.class-x.ensures, c.class-y.ensures) in
     let same : take n after ≡ merged a b (take n all) = held_merged n c.max.result c.min.result all after fits c.relabel.ensures a b hi lo in
     let sound : Sound l.events.count (take n after) = subst (Sound l.events.count) (sym same) (sound_merged l.events.count (take n all) a b ha hb (record { named = l.named; sized = l.sized; packed = l.packed })) in
-    (l.few, (held_as_many n c.max.result c.min.result all after fits c.relabel.ensures ∙ l.full, (sound.named, (sound.sized, (sound.packed, (l.spare, (l.records, (l.parted, tt))))))))
+    record {
+      few = l.few;
+      full = held_as_many n c.max.result c.min.result all after fits c.relabel.ensures ∙ l.full;
+      named = sound.named;
+      sized = sound.sized;
+      packed = sound.packed;
+      spare = l.spare;
+      records = l.records;
+      parted = l.parted;
+    }
 
 pub returns : goal.returns
 returns c =
