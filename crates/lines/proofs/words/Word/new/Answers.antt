@@ -4,4 +4,4 @@ use Rattle.lines.proofs.words.Word.new.Goals as goal
 
 -- no letters, over zeros
 pub invariant_of-result : goal.invariant_of-result
-invariant_of-result c = (omega arith, (refl, (zeros_ascii 64, tt)))
+invariant_of-result c = record { short = omega arith; whole = refl; ascii = zeros_ascii 64 }
