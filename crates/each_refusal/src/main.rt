@@ -1,9 +1,9 @@
-//! The same program as merge, run on an input that shows each refusal of a count book.
+//! Lines of all verbs answered, on an input that shows each refusal of a count book.
 #![tactic(auto)]
 
-use exchange::run;
+use exchange::{Service, run};
 use std::io;
 
 fn main(rt: HostRuntime) -> io::Result<()> {
-    run(&rt)
+    run(&rt, Service::Requests)
 }

@@ -7,6 +7,7 @@ use kinds::count::Count;
 use kinds::kind::Kind;
 use lines::openings::KindName;
 use lines::replies::{Answer, Reply};
+use serving::answering::answer_request;
 use serving::chaining::Listed;
 use serving::opening::{Opened, open_by};
 use serving::serving::answer_line;
@@ -23,6 +24,15 @@ const MOST_TABLE: usize = 400;
 /// A book's shelf has so many numbers.
 const SHELF_NUMBERS: usize = 4096;
 
+/// Which lines are answered on an open book.
+#[derive(Clone, Copy)]
+pub enum Service {
+    /// Tables, joins and weighing.
+    Statements,
+    /// These, and chains, parts and asking.
+    Requests,
+}
+
 /// Standard input line by line, and the answers to standard output.
 #[derive(Drop)]
 struct Exchange {
@@ -33,13 +43,15 @@ struct Exchange {
 }
 
 impl Exchange {
-    fn new(rt: &HostRuntime) -> Exchange {
-        Exchange {
-            input: BufReader::new(rt.stdin()),
-            output: BufWriter::new(rt.stdout()),
+    fn new(rt: &HostRuntime) -> io::Result<Exchange> {
+        let input = BufReader::new(rt.alloc(), rt.stdin())?;
+        let output = BufWriter::new(rt.alloc(), rt.stdout())?;
+        Ok(Exchange {
+            input,
+            output,
             line: LineBuffer::new(rt.alloc()),
             count: 0,
-        }
+        })
     }
 
     /// Reads the next line, and answers whether there is one. All answers are out before more input is waited for.
@@ -76,6 +88,7 @@ impl Exchange {
 /// Answers the lines behind the one that opened a book, with a shelf, a run for numbers and scratch for weighing and for a chain's table that are lent for it.
 fn serve<K: Listed>(
     exchange: &mut Exchange,
+    service: Service,
     events: Events,
     shelf: &mut [K],
     run: &mut [K],
@@ -87,14 +100,23 @@ fn serve<K: Listed>(
         if !exchange.next_line()? {
             break;
         }
-        let reply = answer_line(&mut book, run, strip, table, exchange.line.text());
+        let line = exchange.line.text();
+        let reply = match service {
+            Service::Statements => answer_line(&mut book, run, strip, line),
+            Service::Requests => answer_request(&mut book, run, strip, table, line),
+        };
         exchange.answer(reply)?;
     }
     Ok(())
 }
 
 /// Opens a book and answers the lines behind it.
-fn open_and_serve(rt: &HostRuntime, exchange: &mut Exchange, opened: Opened) -> io::Result<()> {
+fn open_and_serve(
+    rt: &HostRuntime,
+    exchange: &mut Exchange,
+    service: Service,
+    opened: Opened,
+) -> io::Result<()> {
     exchange.answer(Reply::Open)?;
     match opened.kind {
         KindName::Count => {
@@ -104,6 +126,7 @@ fn open_and_serve(rt: &HostRuntime, exchange: &mut Exchange, opened: Opened) -> 
             let mut table = [Count::zero(); MOST_TABLE];
             serve(
                 exchange,
+                service,
                 opened.events,
                 shelf.as_mut_slice(),
                 run.as_mut_slice(),
@@ -118,6 +141,7 @@ fn open_and_serve(rt: &HostRuntime, exchange: &mut Exchange, opened: Opened) -> 
             let mut table = [Best::zero(); MOST_TABLE];
             serve(
                 exchange,
+                service,
                 opened.events,
                 shelf.as_mut_slice(),
                 run.as_mut_slice(),
@@ -129,14 +153,14 @@ fn open_and_serve(rt: &HostRuntime, exchange: &mut Exchange, opened: Opened) -> 
 }
 
 /// Answers all lines of standard input, each before more input is waited for. No contract can say what is read or written.
-pub fn run(rt: &HostRuntime) -> io::Result<()> {
-    let mut exchange = Exchange::new(rt);
+pub fn run(rt: &HostRuntime, service: Service) -> io::Result<()> {
+    let mut exchange = Exchange::new(rt)?;
     for _ in 0..u64::MAX {
         if !exchange.next_line()? {
             break;
         }
         match open_by(exchange.line.text()) {
-            Ok(opened) => open_and_serve(rt, &mut exchange, opened)?,
+            Ok(opened) => open_and_serve(rt, &mut exchange, service, opened)?,
             Err(fault) => exchange.answer(Reply::Refused(fault))?,
         }
     }

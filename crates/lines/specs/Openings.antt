@@ -8,7 +8,7 @@ use Rattle.lines.specs.declared.openings.KindName.{KindName}
 use Rattle.lines.specs.declared.openings.KindName.TheVariants.{Count, Best}
 use Rattle.lines.specs.declared.openings.Opening.{Opening}
 use Rattle.lines.specs.declared.verbs.Verb.{Verb}
-use Rattle.lines.specs.declared.verbs.Verb.TheVariants.{Book, Table, Chain, Join, Weigh, Part, Ask}
+use Rattle.lines.specs.declared.verbs.Verb.TheVariants.{Book, Table, Join, Weigh}
 use Rattle.text.specs.Split.{split}
 use Rattle.text.specs.Numerals.{plain_at}
 use Rattle.lines.specs.Verbs.{verb_of, behind_verb}
@@ -28,11 +28,8 @@ book_of (k ∷ n ∷ f ∷ fs) = Err (fault FieldCount)
 abbrev pub opening_by : Option Verb → List (List ℕ) → Result Opening Fault
 opening_by (Some Book) fs = book_of fs
 opening_by (Some Table) fs = Err (fault VerbNotServed)
-opening_by (Some Chain) fs = Err (fault VerbNotServed)
 opening_by (Some Join) fs = Err (fault VerbNotServed)
 opening_by (Some Weigh) fs = Err (fault VerbNotServed)
-opening_by (Some Part) fs = Err (fault VerbNotServed)
-opening_by (Some Ask) fs = Err (fault VerbNotServed)
 opening_by None fs = Err (fault VerbNotServed)
 
 -- a line while no book is open; none is a line that lacks its line feed or is too long

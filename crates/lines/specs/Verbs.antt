@@ -2,18 +2,15 @@
 use Rattle.std.specs.Prelude.{ℕ, cond, List, [], ◌∷◌, Some, None, codes, Option}
 use Rattle.std.specs.Str.{bytes_eq}
 use Rattle.lines.specs.declared.verbs.Verb.{Verb}
-use Rattle.lines.specs.declared.verbs.Verb.TheVariants.{Book, Table, Chain, Join, Weigh, Part, Ask}
+use Rattle.lines.specs.declared.verbs.Verb.TheVariants.{Book, Table, Join, Weigh}
 
 -- the verb that a field names
 abbrev pub verb_named : List ℕ → Option Verb
 verb_named s =
     cond (bytes_eq s (codes "book")) (Some Book)
     (cond (bytes_eq s (codes "table")) (Some Table)
-    (cond (bytes_eq s (codes "chain")) (Some Chain)
     (cond (bytes_eq s (codes "join")) (Some Join)
-    (cond (bytes_eq s (codes "weigh")) (Some Weigh)
-    (cond (bytes_eq s (codes "part")) (Some Part)
-    (cond (bytes_eq s (codes "ask")) (Some Ask) None))))))
+    (cond (bytes_eq s (codes "weigh")) (Some Weigh) None)))
 
 -- a line's verb is its first field
 abbrev pub verb_of : List (List ℕ) → Option Verb

@@ -4,10 +4,10 @@ ghost use Rattle.std.specs.Option.{option_map};
 ghost use Rattle.text.specs.Split.{left};
 ghost use Rattle.lines.specs.Openings.{kind_at, book_of, opening_of};
 
-use crate::verbs::{Verb, is, take_verb};
-use kinds::fault::{Fault, Refusal};
 use text::fields::Fields;
 use text::numbers::plain;
+use crate::verbs::{Verb, is, take_verb};
+use kinds::fault::{Fault, Refusal};
 
 /// A kind of number, as a line names it.
 #[derive(Clone, Copy)]
@@ -64,7 +64,8 @@ pub fn read_opening(line: Option<&[u8]>) -> Result<Opening, Fault>
     let mut fields = Fields::new(text);
     match take_verb(&mut fields) {
         Some(Verb::Book) => book(fields),
-        Some(Verb::Table | Verb::Chain | Verb::Join | Verb::Weigh | Verb::Part | Verb::Ask)
-        | None => Err(Fault::of(Refusal::VerbNotServed)),
+        Some(Verb::Table | Verb::Join | Verb::Weigh) | None => Err(Fault::of(
+            Refusal::VerbNotServed,
+        )),
     }
 }

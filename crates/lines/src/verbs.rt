@@ -11,15 +11,12 @@ use text::fields::Fields;
 pub enum Verb {
     Book,
     Table,
-    Chain,
     Join,
     Weigh,
-    Part,
-    Ask,
 }
 
 /// Whether two texts are the same.
-pub(crate) fn is(a: &[u8], b: &[u8]) -> bool
+pub fn is(a: &[u8], b: &[u8]) -> bool
     ensures { result ≡ bytes_eq a.now b.now }
 {
     a == b
@@ -35,16 +32,10 @@ pub fn take_verb(fields: &mut Fields<'_>) -> Option<Verb>
         Some(Verb::Book)
     } else if is(name, b"table") {
         Some(Verb::Table)
-    } else if is(name, b"chain") {
-        Some(Verb::Chain)
     } else if is(name, b"join") {
         Some(Verb::Join)
     } else if is(name, b"weigh") {
         Some(Verb::Weigh)
-    } else if is(name, b"part") {
-        Some(Verb::Part)
-    } else if is(name, b"ask") {
-        Some(Verb::Ask)
     } else {
         None
     }

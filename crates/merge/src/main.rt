@@ -1,9 +1,9 @@
-//! merge answers the lines of standard input. It is run on a session that tells two tables apart.
+//! merge answers the lines of standard input: a line opens a book, and the lines after it work on that book.
 #![tactic(auto)]
 
-use exchange::run;
+use exchange::{Service, run};
 use std::io;
 
 fn main(rt: HostRuntime) -> io::Result<()> {
-    run(&rt)
+    run(&rt, Service::Statements)
 }

@@ -1,9 +1,9 @@
-//! merge once more, run on lines most of which are refused.
+//! Lines of all verbs answered, on lines of a best book most of which are refused.
 #![tactic(auto)]
 
-use exchange::run;
+use exchange::{Service, run};
 use std::io;
 
 fn main(rt: HostRuntime) -> io::Result<()> {
-    run(&rt)
+    run(&rt, Service::Requests)
 }

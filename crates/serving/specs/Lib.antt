@@ -1,3 +1,4 @@
 pub mod Opening
 pub mod Chaining
 pub mod Serving
+pub mod Answering

@@ -5,7 +5,7 @@ ghost use Rattle.ledger.specs.Ask.{ask_answer};
 ghost use Rattle.ledger.specs.Parts.{HasPart, part_of};
 ghost use Rattle.ledger.specs.View.{view};
 ghost use Rattle.lines.specs.Words.{letters};
-ghost use Rattle.serving.specs.Serving.{Tells};
+ghost use Rattle.serving.specs.Answering.{Tells};
 
 use crate::chaining::Listed;
 use book::book::Book;

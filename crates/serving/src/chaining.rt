@@ -11,11 +11,11 @@ use kinds::best::Best;
 use kinds::count::Count;
 use kinds::fault::{Fault, Refusal};
 use kinds::kind::Kind;
-use statements::statements::Written;
+use statements::requests::Chained;
 use tables::shape::{Events, States, table_size};
 
 /// Numbers of a book that lines work on.
-pub trait Listed: Kind + Written {
+pub trait Listed: Kind + Chained {
     /// How chains of these numbers become tables.
     ghost chains: { Converting Self };
 

@@ -4,7 +4,8 @@ ghost use Rattle.tables.specs.Strip.{cleared};
 ghost use Rattle.ledger.specs.View.{view};
 ghost use Rattle.uses.specs.Holds.{Entered};
 ghost use Rattle.uses.specs.Part.{part_answer, part_ledger};
-ghost use Rattle.serving.specs.Serving.{replied, parted};
+ghost use Rattle.serving.specs.Serving.{replied};
+ghost use Rattle.serving.specs.Answering.{parted};
 
 use crate::chaining::Listed;
 use book::book::Book;

@@ -1,9 +1,9 @@
 //! The lines on an open book, and the numbers of a line.
-ghost use Rattle.std.specs.Prelude.{◌≡◌, ◌+◌, ◌<◌, ◌≤◌, min, Bool, true, false, length, take, ℤ, IfOk, Some, Ok, Err, Option, MatchResult, OnOk, nat_lt};
+ghost use Rattle.std.specs.Prelude.{◌≡◌, ◌+◌, ◌<◌, ◌≤◌, length, take, ℤ, IfOk, Some, Ok, Err, Option, MatchResult, nat_lt};
 ghost use Rattle.std.specs.Option.{option_map};
 ghost use Rattle.text.specs.declared.numbers.Reading.{Reading as Read};
 ghost use Rattle.text.specs.Split.{left};
-ghost use Rattle.statements.specs.Statements.{most_numbers, count_meant, best_meant, front, numbers_at, overlaid, table_of, table_run, three_fixed, chain_of, chain_run, join_of, join_run, table_and_word, two_tables_and_word, two_tables, statement_of, statement_run, InRun, Reads};
+ghost use Rattle.statements.specs.Statements.{most_numbers, count_meant, best_meant, front, numbers_at, overlaid, table_of, table_run, join_of, join_run, table_and_word, statement_of, statement_run, InRun, Reads};
 
 use kinds::best::Best;
 use kinds::count::Count;
@@ -23,13 +23,6 @@ pub trait Written: Copy {
     /// The whole number that a number is shown as, or none for a hyphen.
     ghost shown: { Self → Option ℤ };
 
-    /// Whether chains can be entered in a book of such numbers.
-    ghost chained: { Bool };
-
-    /// Whether chains can be entered in a book of such numbers.
-    fn takes_chains() -> bool
-        ensures { result ≡ chained };
-
     /// The number of a field that reads so.
     fn from_reading(reading: Reading) -> Option<Self>
         ensures { result ≡ meant reading };
@@ -43,12 +36,6 @@ impl Written for Count {
     ghost meant = { count_meant };
 
     ghost shown = { λ x. Some x.0 };
-
-    ghost chained = { true };
-
-    fn takes_chains() -> bool {
-        true
-    }
 
     fn from_reading(reading: Reading) -> Option<Count> {
         match reading {
@@ -66,12 +53,6 @@ impl Written for Best {
     ghost meant = { best_meant };
 
     ghost shown = { λ x. x.0 };
-
-    ghost chained = { false };
-
-    fn takes_chains() -> bool {
-        false
-    }
 
     fn from_reading(reading: Reading) -> Option<Best> {
         match reading {
@@ -91,20 +72,14 @@ impl Written for Best {
 pub enum Statement<'a> {
     /// Enter a table with so many states and so many numbers.
     Table(usize, usize),
-    /// Enter the table of a chain with so many states, a scale, letters and so many numbers.
-    Chain(usize, usize, &'a [u8], usize),
     /// Join two tables by a sheet of so many vectors and so many numbers.
     Join(usize, usize, usize, usize),
     /// Weigh a word in a table.
     Weigh(usize, &'a [u8]),
-    /// Keep a word that weighs differently in two tables.
-    Part(usize, usize, &'a [u8]),
-    /// Say what is known of two tables.
-    Ask(usize, usize),
 }
 
 /// Whether more than so many fields are left.
-fn more_than(mut fields: Fields<'_>, most: usize) -> bool
+pub(crate) fn more_than(mut fields: Fields<'_>, most: usize) -> bool
     ensures { result ≡ nat_lt most (length (left fields.entry)) }
 {
     let mut n = 0;
@@ -118,7 +93,11 @@ fn more_than(mut fields: Fields<'_>, most: usize) -> bool
 }
 
 /// Reads the fields that are left as numbers to the front of the run; the first of them stands at the place `first` of the line.
-fn read_run<K: Written>(mut fields: Fields<'_>, first: usize, run: &mut [K]) -> Result<usize, Fault>
+pub(crate) fn read_run<K: Written>(
+    mut fields: Fields<'_>,
+    first: usize,
+    run: &mut [K],
+) -> Result<usize, Fault>
     requires room { length (left fields) ≤ length run.old }
     requires few { length (left fields) ≤ most_numbers }
     requires small { first < 16 }
@@ -154,49 +133,24 @@ fn table<'a, K: Written>(mut fields: Fields<'a>, run: &mut [K]) -> Result<Statem
     Ok(Statement::Table(states, count))
 }
 
-/// Three fixed fields, where no more fields follow than a line may have numbers and than there is room for.
-fn three_fixed<'a>(
-    fields: &mut Fields<'a>,
-    room: usize,
-) -> Result<(&'a [u8], &'a [u8], &'a [u8]), Fault>
-    ensures value { MatchResult result (λ x. three_fixed room (left fields.old) ≡ Ok (record { first = x.0.now; second = x.1.now; third = x.2.now; numbers = left fields.new })) (λ f. three_fixed room (left fields.old) ≡ Err f) }
-    ensures few { OnOk result (length (left fields.new) ≤ min most_numbers room) }
-{
-    let Some(first) = fields.next_field() else {
-        return Err(Fault::of(Refusal::FieldCount));
-    };
-    let Some(second) = fields.next_field() else {
-        return Err(Fault::of(Refusal::FieldCount));
-    };
-    let Some(third) = fields.next_field() else {
-        return Err(Fault::of(Refusal::FieldCount));
-    };
-    if more_than(*fields, MOST_NUMBERS.min(room)) {
-        return Err(Fault::of(Refusal::FieldCount));
-    }
-    Ok((first, second, third))
-}
-
-/// The fields of a chain line behind its verb; the letters are any bytes.
-fn chain<'a, K: Written>(mut fields: Fields<'a>, run: &mut [K]) -> Result<Statement<'a>, Fault>
-    ensures value { Reads K.Written.meant (chain_of K.Written.meant (length run.old) (left fields.entry)) run.new result }
-    ensures within { IfOk result (λ s. InRun s (length run.new)) }
-    ensures run { run.new ≡ chain_run K.Written.meant run.old (left fields.entry) }
-{
-    let (states, scale, letters) = three_fixed(&mut fields, run.len())?;
-    let states = plain(states, 2)?;
-    let scale = plain(scale, 3)?;
-    let count = read_run(fields, 5, run)?;
-    Ok(Statement::Chain(states, scale, letters, count))
-}
-
 /// The fields of a join line behind its verb.
 fn join<'a, K: Written>(mut fields: Fields<'a>, run: &mut [K]) -> Result<Statement<'a>, Fault>
     ensures value { Reads K.Written.meant (join_of K.Written.meant (length run.old) (left fields.entry)) run.new result }
     ensures within { IfOk result (λ s. InRun s (length run.new)) }
     ensures run { run.new ≡ join_run K.Written.meant run.old (left fields.entry) }
 {
-    let (a, b, vectors) = three_fixed(&mut fields, run.len())?;
+    let Some(a) = fields.next_field() else {
+        return Err(Fault::of(Refusal::FieldCount));
+    };
+    let Some(b) = fields.next_field() else {
+        return Err(Fault::of(Refusal::FieldCount));
+    };
+    let Some(vectors) = fields.next_field() else {
+        return Err(Fault::of(Refusal::FieldCount));
+    };
+    if more_than(fields, MOST_NUMBERS.min(run.len())) {
+        return Err(Fault::of(Refusal::FieldCount));
+    }
     let a = plain(a, 2)?;
     let b = plain(b, 3)?;
     let vectors = plain(vectors, 4)?;
@@ -221,54 +175,15 @@ fn table_and_word<'a>(mut fields: Fields<'a>) -> Result<(usize, &'a [u8]), Fault
     Ok((table, word))
 }
 
-/// Two tables' numbers and a word, which are all fields behind the verb.
-fn two_tables_and_word<'a>(mut fields: Fields<'a>) -> Result<(usize, usize, &'a [u8]), Fault>
-    ensures { MatchResult result (λ x. two_tables_and_word (left fields.entry) ≡ Ok (x.0, x.1, x.2.now)) (λ f. two_tables_and_word (left fields.entry) ≡ Err f) }
-{
-    let Some(first) = fields.next_field() else {
-        return Err(Fault::of(Refusal::FieldCount));
-    };
-    let Some(second) = fields.next_field() else {
-        return Err(Fault::of(Refusal::FieldCount));
-    };
-    let Some(word) = fields.next_field() else {
-        return Err(Fault::of(Refusal::FieldCount));
-    };
-    let None = fields.next_field() else {
-        return Err(Fault::of(Refusal::FieldCount));
-    };
-    let first = plain(first, 2)?;
-    let second = plain(second, 3)?;
-    Ok((first, second, word))
-}
-
-/// Two tables' numbers, which are all fields behind the verb.
-fn two_tables(mut fields: Fields<'_>) -> Result<(usize, usize), Fault>
-    ensures { result ≡ two_tables (left fields.entry) }
-{
-    let Some(first) = fields.next_field() else {
-        return Err(Fault::of(Refusal::FieldCount));
-    };
-    let Some(second) = fields.next_field() else {
-        return Err(Fault::of(Refusal::FieldCount));
-    };
-    let None = fields.next_field() else {
-        return Err(Fault::of(Refusal::FieldCount));
-    };
-    let first = plain(first, 2)?;
-    let second = plain(second, 3)?;
-    Ok((first, second))
-}
-
 /// What a line asks while a book is open; none is a line that lacks its line feed or is too long.
 /// A run that is lent for the numbers has room for all that a line may have if it holds `MOST_NUMBERS`.
 pub fn read_statement<'a, K: Written>(
     line: Option<&'a [u8]>,
     run: &mut [K],
 ) -> Result<Statement<'a>, Fault>
-    ensures value { Reads K.Written.meant (statement_of K.Written.meant K.Written.chained (length run.old) (option_map (λ x. x.now) line.entry)) run.new result }
+    ensures value { Reads K.Written.meant (statement_of K.Written.meant (length run.old) (option_map (λ x. x.now) line.entry)) run.new result }
     ensures within { IfOk result (λ s. InRun s (length run.new)) }
-    ensures run { run.new ≡ statement_run K.Written.meant K.Written.chained run.old (option_map (λ x. x.now) line.entry) }
+    ensures run { run.new ≡ statement_run K.Written.meant run.old (option_map (λ x. x.now) line.entry) }
 {
     let Some(text) = line else {
         return Err(Fault::of(Refusal::LineBounds));
@@ -276,20 +191,11 @@ pub fn read_statement<'a, K: Written>(
     let mut fields = Fields::new(text);
     match take_verb(&mut fields) {
         Some(Verb::Table) => table(fields, run),
-        Some(Verb::Chain) if K::takes_chains() => chain(fields, run),
         Some(Verb::Join) => join(fields, run),
         Some(Verb::Weigh) => {
             let (table, word) = table_and_word(fields)?;
             Ok(Statement::Weigh(table, word))
         }
-        Some(Verb::Part) => {
-            let (first, second, word) = two_tables_and_word(fields)?;
-            Ok(Statement::Part(first, second, word))
-        }
-        Some(Verb::Ask) => {
-            let (first, second) = two_tables(fields)?;
-            Ok(Statement::Ask(first, second))
-        }
-        Some(Verb::Book | Verb::Chain) | None => Err(Fault::of(Refusal::VerbNotServed)),
+        Some(Verb::Book) | None => Err(Fault::of(Refusal::VerbNotServed)),
     }
 }

@@ -1,9 +1,9 @@
-//! The same program as merge, run on two shops' return forecasts for a week.
+//! Lines of all verbs answered, on two shops' return forecasts for a week.
 #![tactic(auto)]
 
-use exchange::run;
+use exchange::{Service, run};
 use std::io;
 
 fn main(rt: HostRuntime) -> io::Result<()> {
-    run(&rt)
+    run(&rt, Service::Requests)
 }

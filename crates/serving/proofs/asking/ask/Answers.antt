@@ -6,7 +6,7 @@ use Rattle.ledger.specs.View.{view}
 use Rattle.ledger.specs.declared.asking.Comparison.TheVariants as comparison
 use Rattle.lines.specs.declared.replies.Reply.TheVariants.{Different}
 use Rattle.lines.specs.Words.{letters}
-use Rattle.serving.specs.Serving.{Tells}
+use Rattle.serving.specs.Answering.{Tells}
 use Rattle.serving.proofs.Lettered.{different_by_part}
 use Rattle.serving.proofs.asking.ask.Goals as goal
 

@@ -1,9 +1,9 @@
 use Rattle.std.proofs.Common.{◌≡◌, ℕ, length, refl, ap, ◌∙◌}
 use Rattle.ledger.specs.View.{view}
 use Rattle.serving.specs.Chaining.{room_for}
-use Rattle.serving.specs.Serving.{chain_answer, chain_ledger, chain_shelf}
+use Rattle.serving.specs.Answering.{chain_answer, chain_ledger, chain_shelf}
 use Rattle.serving.proofs.Written.{front_long, front_written}
-use Rattle.serving.proofs.serving.chain.Goals as goal
+use Rattle.serving.proofs.answering.chain.Goals as goal
 
 pub returns : goal.returns
 returns g c =
