@@ -1,11 +1,10 @@
 //! Joining two tables by a sheet.
 ghost use Rattle.std.specs.Prelude.{◌≡◌, is_ok, Ok, MatchResult};
-ghost use Rattle.ledger.specs.Standing.{TwoTables};
 ghost use Rattle.ledger.specs.View.{view};
 ghost use Rattle.uses.specs.Calls.{at, join as joins};
 ghost use Rattle.uses.specs.History.{LeadsOn};
 ghost use Rattle.uses.specs.Holds.{Entered};
-ghost use Rattle.uses.specs.Join.{with_merged, EarlyJoin, Answered, Joined, JoinsExactly, AlikeInBook};
+ghost use Rattle.uses.specs.Join.{with_merged, EarlyJoin, Answered, Joined, JoinsExactly, TwoTables, AlikeInBook};
 
 use crate::book::Book;
 use crate::shelf::part;
@@ -27,7 +26,7 @@ fn check_tables<K: Kind>(
     ensures answer { Entered K.Kind.numbers (view ledger.now) shelf.now → Answered K.Kind.numbers (view ledger.now) shelf.now a b vectors sheet.now result }
     ensures exactly { Entered K.Kind.numbers (view ledger.now) shelf.now → JoinsExactly K.Kind.numbers (view ledger.now) shelf.now a b vectors sheet.now result }
     ensures alike { Entered K.Kind.numbers (view ledger.now) shelf.now → result ≡ Ok tt → AlikeInBook K.Kind.numbers (view ledger.now) shelf.now a b vectors sheet.now }
-    ensures two { result ≡ Ok tt → TwoTables (view ledger.now).lines a b }
+    ensures two { result ≡ Ok tt → TwoTables (view ledger.now) a b }
 {
     let two = ledger.two_tables(a, b)?;
     check_sheet(
@@ -48,7 +47,7 @@ impl<'a, K: Kind> Book<'a, K> {
         ensures answer { Entered K.Kind.numbers (view self.now.ledger) self.now.shelf.now → Answered K.Kind.numbers (view self.now.ledger) self.now.shelf.now a b vectors sheet.now result }
         ensures exactly { Entered K.Kind.numbers (view self.now.ledger) self.now.shelf.now → JoinsExactly K.Kind.numbers (view self.now.ledger) self.now.shelf.now a b vectors sheet.now result }
         ensures alike { Entered K.Kind.numbers (view self.now.ledger) self.now.shelf.now → result ≡ Ok tt → AlikeInBook K.Kind.numbers (view self.now.ledger) self.now.shelf.now a b vectors sheet.now }
-        ensures two { result ≡ Ok tt → TwoTables (view self.now.ledger).lines a b }
+        ensures two { result ≡ Ok tt → TwoTables (view self.now.ledger) a b }
     {
         check_tables(&self.ledger, self.shelf, a, b, vectors, sheet)
     }

@@ -1,10 +1,10 @@
 -- What weighing a word answers.
-use Rattle.std.specs.Prelude.{◌≡◌, ℕ, Bool, true, false, List, IfOk, Some, None, Err, Option, Result, ◌==◌}
+use Rattle.std.specs.Prelude.{◌≡◌, ℕ, Bool, true, false, List, length, IfOk, Some, None, Err, Option, Result, ◌==◌, nat_le}
 use Rattle.kinds.specs.declared.fault.Fault.{Fault}
-use Rattle.kinds.specs.declared.fault.Refusal.TheVariants.{StripLength}
-use Rattle.kinds.specs.Faults.{fault, unless}
+use Rattle.kinds.specs.declared.fault.Refusal.TheVariants.{WordLength, NotAnEvent, StripLength}
+use Rattle.kinds.specs.Faults.{fault, unless, unless_found}
 use Rattle.kinds.specs.Numbers.{Numbers, said}
-use Rattle.tables.specs.Words.{events_of, unless_word}
+use Rattle.tables.specs.Words.{events_of, first_stray, longest_word}
 use Rattle.tables.specs.Layout.{value}
 use Rattle.tables.specs.Weight.{weight}
 use Rattle.tables.specs.Path.{path_answer}
@@ -13,7 +13,10 @@ use Rattle.tables.specs.Strip.{strip_size}
 
 -- the refusals that hang on no number, in order: the word's length, its first byte that is none of k events, the strip's length
 abbrev pub weigh_fault : ℕ → List ℕ → ℕ → Option Fault
-weigh_fault k word strip = unless_word k word (unless (strip == strip_size) (fault StripLength) None)
+weigh_fault k word strip =
+    unless (nat_le (length word) longest_word) (fault WordLength)
+    (unless_found (first_stray k 1 word) NotAnEvent
+    (unless (strip == strip_size) (fault StripLength) None))
 
 -- an answer, unless something is refused before it
 abbrev pub answered : {A : Type 0} → Option Fault → Result A Fault → Result A Fault

@@ -205,4 +205,24 @@ mod tests {
             },
         }
     }
+
+    #[test]
+    fn out_of_range_on_the_way(rt: HostRuntime) {
+        let most = Count(4_000_000_000_000_000_000);
+        let least = Count(-4_000_000_000_000_000_000);
+        let upward = [most, most, least, Count(1), Count(1), Count(1)];
+        assert_eq!(rt; counts(&upward, 3, b""), (0, 19));
+        let unreached = [
+            Count(1),
+            Count(0),
+            Count(1),
+            most,
+            Count(1),
+            Count(0),
+            Count(0),
+            Count(2),
+        ];
+        assert_eq!(rt; counts(&unreached, 2, b""), (1, 0));
+        assert_eq!(rt; counts(&unreached, 2, b"a"), (0, 19));
+    }
 }

@@ -1,18 +1,28 @@
 -- What joining two tables by a sheet answers and leaves.
-use Rattle.std.specs.Prelude.{◌≡◌, ℕ, ◌+◌, Bool, List, Some, None, Ok, Err, Decides, Option, Result}
+use Rattle.std.specs.Prelude.{◌≡◌, ℕ, ◌+◌, Bool, not, List, Some, None, Ok, Err, Decides, Option, Result, ◌==◌}
 use Rattle.kinds.specs.declared.fault.Fault.{Fault}
-use Rattle.kinds.specs.Faults.{or_refused, or_kept}
+use Rattle.kinds.specs.declared.fault.Refusal.TheVariants.{SameTable}
+use Rattle.kinds.specs.Faults.{fault, unless, or_refused, or_kept}
 use Rattle.kinds.specs.Numbers.{Numbers}
 use Rattle.sheets.specs.Answer.{shape_fault, form_fault, sheet_fault}
 use Rattle.sheets.specs.Promises.{ScaleCancels, AcceptsExactly, Alike}
 use Rattle.ledger.specs.Classes.{merged}
 use Rattle.ledger.specs.Model.{Model}
-use Rattle.ledger.specs.Standing.{TwoTables, unless_two_tables}
+use Rattle.ledger.specs.Standing.{unless_table}
+use Rattle.ledger.specs.Standing as standing
 use Rattle.uses.specs.Holds.{table_at}
 
 -- the classes of two tables as one
 abbrev pub with_merged : Model → ℕ → ℕ → Model
 with_merged m a b = record { events = m.events; lines = merged a b m.lines; parts = m.parts }
+
+-- two different tables of the book
+abbrev pub TwoTables : Model → ℕ → ℕ → Type 0
+TwoTables m a b = standing.TwoTables m.lines a b
+
+-- table numbers that are not two different tables of the book refuse; else the rest is asked
+abbrev pub unless_two_tables : Model → ℕ → ℕ → Option Fault → Option Fault
+unless_two_tables m a b rest = unless_table m.lines a 1 (unless_table m.lines b 2 (unless (not (a == b)) (fault SameTable) rest))
 
 module _ {K : Type 0} (N : Numbers K) (m : Model) (shelf : List K) (a b R : ℕ) (sheet : List K) where
   -- the two tables' states together
@@ -21,11 +31,11 @@ module _ {K : Type 0} (N : Numbers K) (m : Model) (shelf : List K) (a b R : ℕ)
 
   -- the refusals of join that hang on no number of the tables, and all of them, in order; a Boolean tells whether the scale cancels
   abbrev pub early_join_fault : Bool → Option Fault
-  early_join_fault cancels = unless_two_tables m.lines a b (form_fault N m.events width R sheet cancels)
+  early_join_fault cancels = unless_two_tables m a b (form_fault N m.events width R sheet cancels)
 
   abbrev pub join_fault : Bool → Option Fault
   join_fault cancels =
-      unless_two_tables m.lines a b
+      unless_two_tables m a b
       (sheet_fault N m.events (table_at m shelf a).states (table_at m shelf a).run (table_at m shelf b).states (table_at m shelf b).run R sheet cancels)
 
   -- the answer, and the ledger afterwards
@@ -37,7 +47,7 @@ module _ {K : Type 0} (N : Numbers K) (m : Model) (shelf : List K) (a b R : ℕ)
 
   -- some Boolean, which tells whether the scale cancels where nothing refuses before that is asked, keeps Q
   abbrev pub AtScale : (Bool → Type 0) → Type 0
-  AtScale Q = (c : Bool) × (unless_two_tables m.lines a b (shape_fault N m.events width R sheet None) ≡ None → Decides c (ScaleCancels N sheet)) × Q c
+  AtScale Q = (c : Bool) × (unless_two_tables m a b (shape_fault N m.events width R sheet None) ≡ None → Decides c (ScaleCancels N sheet)) × Q c
 
   -- the early refusals, whatever the tables hold
   abbrev pub EarlyJoin : Result (Unit {0}) Fault → Type 0
@@ -53,8 +63,8 @@ module _ {K : Type 0} (N : Numbers K) (m : Model) (shelf : List K) (a b R : ℕ)
 
   -- accepted exactly for two different tables and a sheet that is formed and keeps the rules; each refused place is the first that fails
   pub record JoinsExactly (r : Result (Unit {0}) Fault) : Type 0 where
-    pub two : r ≡ Ok tt → TwoTables m.lines a b
-    pub exactly : TwoTables m.lines a b → AcceptsExactly N m.events (table_at m shelf a).states (table_at m shelf a).run (table_at m shelf b).states (table_at m shelf b).run R sheet r
+    pub two : r ≡ Ok tt → TwoTables m a b
+    pub exactly : TwoTables m a b → AcceptsExactly N m.events (table_at m shelf a).states (table_at m shelf a).run (table_at m shelf b).states (table_at m shelf b).run R sheet r
 
   -- every word over the events weighs the same in the two tables that ledger and shelf hold
   abbrev pub AlikeInBook : Type 0
