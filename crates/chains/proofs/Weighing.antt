@@ -1,9 +1,9 @@
 -- A table of rows through gates weighs a word as the scale × its numerator.
-use Rattle.std.proofs.Common.{◌≡◌, ℕ, zero, suc, ◌<◌, List, [], ◌∷◌, ◌++◌, map, length, sym, refl, ap, ◌∙◌, ap₂}
+use Rattle.std.proofs.Common.{◌≡◌, ℕ, zero, suc, ◌<◌, List, [], ◌∷◌, length, sym, refl, ap, ◌∙◌, ap₂}
 use Rattle.kinds.specs.Semiring.{Semiring, total}
 use Rattle.tables.specs.Shape.{one_to}
 use Rattle.tables.specs.Firsts.{AllPass}
-use Rattle.tables.specs.Weight.{joined, sequences, over, weight}
+use Rattle.tables.specs.Weight.{sequences, over, weight}
 use Rattle.tables.specs.Backward.{vector}
 use Rattle.tables.proofs.Sequences.{total_cong, times_over, by_first, backward_sum_is_weight}
 use Rattle.chains.specs.Gates.{power, rows_from, gates, gated_numerator, AddUp, GatedTable, Weighs, GatedTableWeighs}

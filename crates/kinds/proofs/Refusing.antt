@@ -1,5 +1,5 @@
 -- What is known where a chain of refusals refuses nothing, and how a chain goes on where a part of it refuses nothing.
-use Rattle.std.proofs.Common.{◌≡◌, ℕ, Bool, true, false, cond, Some, None, Ok, Err, Option, Result, refl, ap, arith}
+use Rattle.std.proofs.Common.{◌≡◌, ℕ, Bool, true, false, cond, Some, None, Ok, Err, Option, refl, ap, arith}
 use Rattle.kinds.specs.declared.fault.Fault.{Fault}
 use Rattle.kinds.specs.declared.fault.Refusal.{Refusal}
 use Rattle.kinds.specs.Faults.{unless, unless_found, or_refused, or_kept}

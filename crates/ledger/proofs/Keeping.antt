@@ -1,5 +1,5 @@
 -- One part more, and what a ledger knows of its parts.
-use Rattle.std.proofs.Common.{◌≡◌, ℕ, ◌+◌, ◌-◌, ◌<◌, ◌≤◌, Bool, true, false, not, ◌&&◌, eqb, ltb, leb, List, [], ◌∷◌, ◌++◌, map, length, get_or, take, set, Some, None, Ok, Err, Option, Result, sym, refl, ap, ◌∙◌, subst, ⊎_elim, arith, length-set}
+use Rattle.std.proofs.Common.{◌≡◌, ℕ, ◌+◌, ◌-◌, ◌<◌, ◌≤◌, Bool, true, false, not, eqb, leb, List, [], ◌∷◌, ◌++◌, map, length, get_or, take, set, Some, None, Ok, Err, Option, Result, sym, refl, ap, ◌∙◌, ⊎_elim, arith, length-set}
 use lib.ListN.{length-map}
 use Rattle.std.proofs.lemmas.List.{get_or_append_left, get_or-map, get_or_push, get_or-take, length_push, length-take-le, take-map, take_more_set}
 use Rattle.std.proofs.lemmas.Bool.{and_from, and_parts, cases_Bool, cases_lt, eq-eqb, eqb-false, le-leb, leb-true, ne_eqb, not-true}
@@ -8,14 +8,14 @@ use Rattle.kinds.specs.declared.fault.Refusal.TheVariants.{NoSuchTable, SameTabl
 use Rattle.kinds.specs.Faults.{fault, fault_at, or_kept, or_refused, unless}
 use Rattle.kinds.proofs.Refusing.{passed_test, test_passed}
 use Rattle.tables.specs.Shape.{one_to}
-use Rattle.tables.specs.Words.{event_of, events_of, is_event, AllEvents, longest_word, unless_word}
+use Rattle.tables.specs.Words.{event_of, events_of, AllEvents, longest_word, unless_word}
 use Rattle.tables.proofs.Admitted.{word_passes, word_refused}
 use Rattle.tables.proofs.Limits.{one_to_from, one_to_parts}
 use Rattle.ledger.specs.declared.ledger.Pair.{Pair}
 use Rattle.ledger.specs.declared.line.Line.{Line}
 use Rattle.ledger.specs.declared.part.Part.{Part}
 use Rattle.ledger.specs.Keep.{keep_fault, keep_answer, keep_parts}
-use Rattle.ledger.specs.Parts.{Kept, most_parts, no_part, HasPart, part_of, all_events, is_part, Parted, spelled, with_part, unless_full, word_fault, word_answer, word_run}
+use Rattle.ledger.specs.Parts.{Kept, no_part, part_of, all_events, is_part, Parted, spelled, with_part, unless_full, word_fault, word_answer, word_run}
 use Rattle.ledger.specs.Standing.{Pairs, TwoTables, unless_two_tables}
 use Rattle.ledger.specs.Stored.{meaning, meanings}
 

@@ -1,14 +1,13 @@
 -- One turn of the search for the lowest part between two classes.
-use Rattle.std.proofs.Common.{◌≡◌, ℕ, ◌+◌, ◌-◌, ◌<◌, ◌≤◌, Bool, true, false, not, List, length, get_or, take, drop, Some, None, sym, refl, ap, ◌∙◌, subst, arith}
+use Rattle.std.proofs.Common.{◌≡◌, ℕ, ◌+◌, ◌-◌, ◌<◌, ◌≤◌, Bool, true, false, not, length, get_or, take, drop, Some, None, sym, ap, ◌∙◌, arith}
 use Rattle.std.proofs.lemmas.List.{at_drop_all, get_or-map, get_or-take, length-take-le}
 use Rattle.tables.specs.Firsts.{first_failing}
 use Rattle.tables.proofs.Firsts.{first_here, first_later}
-use Rattle.tables.proofs.Limits.{one_to_parts}
 use Rattle.ledger.specs.declared.ledger.Ledger.{Ledger}
 use Rattle.ledger.specs.declared.part.Part.{Part}
 use Rattle.ledger.specs.Ask.{between, lowest_between, pairs}
 use Rattle.ledger.specs.Lines.{class_of}
-use Rattle.ledger.specs.Parts.{HasPart, Kept, is_part, no_part}
+use Rattle.ledger.specs.Parts.{HasPart, is_part}
 use Rattle.ledger.specs.Stored.{meaning}
 use Rattle.ledger.proofs.Held.{lines_in, parts_fit, parts_held, parts_in}
 use Rattle.ledger.proofs.Keeping.{IsPart, meaning_held, part_is}

@@ -1,5 +1,5 @@
 -- What a ledger says.
-use Rattle.std.specs.Prelude.{ℕ, ◌+◌, cond, List, [], ◌∷◌, ◌++◌, length, Some, None, Ok, Err, Option, Result, nat_le, nat_lt}
+use Rattle.std.specs.Prelude.{ℕ, ◌+◌, List, [], ◌∷◌, ◌++◌, length, None, Option, Result, nat_le, nat_lt}
 use Rattle.kinds.specs.declared.fault.Fault.{Fault}
 use Rattle.kinds.specs.declared.fault.Refusal.TheVariants.{TooManyTables, ShelfFull}
 use Rattle.kinds.specs.Faults.{fault, unless, or_refused, or_kept}

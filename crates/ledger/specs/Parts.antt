@@ -1,5 +1,5 @@
 -- The parts of a ledger: words that are kept because they weigh differently in two tables.
-use Rattle.std.specs.Prelude.{◌≡◌, ℕ, ◌+◌, ◌-◌, ◌≤◌, Bool, true, false, not, ◌&&◌, List, [], ◌∷◌, ◌++◌, map, length, replicate, Some, None, Ok, Err, Option, Result, ◌==◌, nat_le, nat_lt, slice_index_or}
+use Rattle.std.specs.Prelude.{◌≡◌, ℕ, ◌-◌, ◌≤◌, Bool, true, not, ◌&&◌, List, [], ◌∷◌, ◌++◌, map, length, replicate, None, Option, Result, ◌==◌, nat_le, nat_lt, slice_index_or}
 use Rattle.kinds.specs.declared.fault.Fault.{Fault}
 use Rattle.kinds.specs.declared.fault.Refusal.TheVariants.{TooManyParts, NoSuchPart, WordRunLength}
 use Rattle.kinds.specs.Faults.{fault, unless, or_refused, or_kept}

@@ -1,7 +1,6 @@
 -- The text of an answer.
 use Rattle.std.specs.Prelude.{ℕ, List, ◌++◌, ℤ, Some, None, codes, decimal, Option}
 use Rattle.std.specs.Fmt.{signed_decimal}
-use Rattle.kinds.specs.declared.fault.Fault.{Fault}
 use Rattle.kinds.specs.Faults.{number_of}
 use Rattle.lines.specs.declared.replies.Reply.{Reply}
 use Rattle.lines.specs.declared.replies.Reply.TheVariants.{Open, Table, Joined, Weighs, Parted, Same, Different, Unknown, Refused}

@@ -4,10 +4,10 @@ ghost use Rattle.std.specs.Option.{option_map};
 ghost use Rattle.text.specs.Split.{left};
 ghost use Rattle.lines.specs.Openings.{kind_at, book_of, opening_of};
 
-use text::fields::Fields;
-use text::numbers::plain;
 use crate::verbs::{Verb, is, take_verb};
 use kinds::fault::{Fault, Refusal};
+use text::fields::Fields;
+use text::numbers::plain;
 
 /// A kind of number, as a line names it.
 #[derive(Clone, Copy)]

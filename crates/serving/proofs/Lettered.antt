@@ -1,5 +1,5 @@
 -- The word of a part, as it is copied and shown.
-use Rattle.std.proofs.Common.{◌≡◌, ℕ, ◌+◌, ◌-◌, ◌<◌, ◌≤◌, Bool, true, false, cond, not, List, [], ◌∷◌, map, length, take, replicate, Some, None, Ok, Err, IsAscii, Option, sym, refl, ap, ◌∙◌, subst, arith, MatchOption}
+use Rattle.std.proofs.Common.{◌≡◌, ℕ, ◌-◌, ◌≤◌, Bool, true, false, cond, not, List, [], ◌∷◌, map, length, take, replicate, Some, None, Ok, IsAscii, Option, sym, refl, ap, ◌∙◌, subst, arith, MatchOption}
 use lib.ListN.{length-map}
 use Rattle.std.proofs.lemmas.Str.Ascii.{IsAscii-nil, IsAscii-cons}
 use Rattle.std.proofs.lemmas.List.{take_at}

@@ -1,5 +1,5 @@
 -- How chains become tables, for any kind: why one is refused, the run of its table, and the room for it.
-use Rattle.std.specs.Prelude.{ℕ, min, cond, List, ◌++◌, length, drop, Option}
+use Rattle.std.specs.Prelude.{ℕ, min, cond, List, ◌++◌, drop, Option}
 use Rattle.kinds.specs.declared.fault.Fault.{Fault}
 use Rattle.kinds.specs.Faults.{or_kept}
 use Rattle.tables.specs.Shape.{most_states, one_to, table_size}

@@ -1,5 +1,5 @@
 -- What a line opens while no book is open.
-use Rattle.std.specs.Prelude.{ℕ, List, Ok, Err, Option, Result}
+use Rattle.std.specs.Prelude.{ℕ, List, Ok, Option, Result}
 use Rattle.kinds.specs.declared.fault.Fault.{Fault}
 use Rattle.kinds.specs.Faults.{then}
 use Rattle.tables.specs.Shape.{events_answer}

@@ -1,5 +1,5 @@
 -- What weighing a word answers.
-use Rattle.std.specs.Prelude.{◌≡◌, ℕ, Bool, true, false, List, length, IfOk, Some, None, Err, Option, Result, ◌==◌, nat_le}
+use Rattle.std.specs.Prelude.{◌≡◌, ℕ, true, List, length, IfOk, Some, None, Err, Option, Result, ◌==◌, nat_le}
 use Rattle.kinds.specs.declared.fault.Fault.{Fault}
 use Rattle.kinds.specs.declared.fault.Refusal.TheVariants.{WordLength, NotAnEvent, StripLength}
 use Rattle.kinds.specs.Faults.{fault, unless, unless_found}

@@ -1,9 +1,8 @@
 -- How the digits of a number are read one by one, and a minus sign before them.
-use Rattle.std.proofs.Common.{◌≡◌, ℕ, zero, suc, ◌+◌, ◌-◌, ◌*◌, ◌^◌, ◌<◌, ◌≤◌, true, false, cond, eqb, leb, ◌⊎◌, List, [], ◌∷◌, length, get_or, take, drop, Some, None, sym, refl, ap, ◌∙◌, inl, inr, ⊎_elim, add-one, arith, drop-cons, rules, eq-eqb, ne_eqb, le-leb}
+use Rattle.std.proofs.Common.{◌≡◌, ℕ, ◌+◌, ◌*◌, ◌^◌, ◌<◌, ◌≤◌, false, eqb, ◌⊎◌, List, [], ◌∷◌, length, get_or, drop, None, refl, inl, inr, add-one, arith, drop-cons, rules, eq-eqb, ne_eqb, le-leb}
 use native.Mathlib.Nat.{pow-succ', pow-le-pow_right}
 use Rattle.text.specs.declared.numbers.Mark.TheVariants as mark
-use Rattle.text.specs.declared.numbers.Reading.TheVariants as reading
-use Rattle.text.specs.Numerals.{mark_of, further, magnitude_of, reading_of, unsigned, negative}
+use Rattle.text.specs.Numerals.{mark_of, further, magnitude_of, reading_of, negative}
 
 module _ (n : ℕ) (s : List ℕ) (i : ℕ) (h : i < length s) where
   pub further_digit : (d : ℕ) → mark.Digit d ≡ mark_of (get_or s i 0) → further n (drop i s) ≡ further (10 * n + d) (drop (i + 1) s)

@@ -1,5 +1,5 @@
 -- A line's fields, parted by commas (byte 44).
-use Rattle.std.specs.Prelude.{◌≡◌, ℕ, ◌<◌, false, cond, List, [], ◌∷◌, ◌++◌, length, Some, None, Option, ◌==◌}
+use Rattle.std.specs.Prelude.{◌≡◌, ℕ, ◌<◌, false, cond, List, [], ◌∷◌, ◌++◌, length, Some, None, ◌==◌}
 use Rattle.std.specs.List.{AllByRecursion as All}
 use Rattle.text.specs.declared.fields.Fields.{Fields}
 

@@ -4,8 +4,7 @@ use Rattle.std.proofs.lemmas.Bool.Decides.{Decides-like, Decides-not}
 use Rattle.kinds.specs.Semiring.{Cancels}
 use Rattle.kinds.specs.Whole.{whole}
 use Rattle.kinds.specs.Numbers.{Numbers, SumsOfEntryProductsFit}
-use Rattle.kinds.specs.Count.{counts, equal_whole, equal_whole_decides}
-use Rattle.kinds.specs.Best.{bests}
+use Rattle.kinds.specs.Count.{equal_whole, equal_whole_decides}
 use Rattle.kinds.proofs.Wholes.{all_but_zero_cancel, zero_does_not_cancel}
 use Rattle.kinds.proofs.CountReach.{count_sums_fit}
 use Rattle.kinds.proofs.BestReach.{is_some_decides_cancels, best_sums_fit}

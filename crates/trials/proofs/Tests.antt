@@ -4,7 +4,7 @@ use Rattle.std.specs.List.{AllByRecursion as All}
 use Rattle.std.proofs.lemmas.Bool.{and_parts, eqb-true, leb-true}
 use Rattle.std.proofs.lemmas.Bool.Decides.{Decides-not}
 use Rattle.kinds.specs.declared.fault.Fault.{Fault}
-use Rattle.kinds.specs.declared.fault.Refusal.TheVariants.{VectorCount, SheetCount, NotASheetEntry, ScaleDoesNotCancel}
+use Rattle.kinds.specs.declared.fault.Refusal.TheVariants.{VectorCount, SheetCount, NotASheetEntry}
 use Rattle.kinds.specs.Faults.{number_of, fault, unless, unless_found, or_refused}
 use Rattle.kinds.specs.Numbers.{Numbers}
 use Rattle.kinds.proofs.Refusing.{answered}

@@ -1,5 +1,5 @@
 -- A sheet that is checked for two tables of the book, and a ledger whose classes are merged.
-use Rattle.std.proofs.Common.{◌≡◌, ℕ, ◌+◌, ◌-◌, ◌≤◌, true, leb, List, map, length, Some, None, Ok, Err, Option, Result, sym, refl, ap, ◌∙◌, subst, ap₂, arith}
+use Rattle.std.proofs.Common.{◌≡◌, ℕ, ◌+◌, ◌-◌, ◌≤◌, true, leb, List, length, Some, None, Ok, Err, Option, Result, sym, ap, ◌∙◌, subst, arith}
 use Rattle.std.proofs.lemmas.Bool.{and_parts, cond-true, leb-true}
 use Rattle.kinds.specs.declared.fault.Fault.{Fault}
 use Rattle.kinds.specs.Faults.{or_kept, or_refused}
@@ -10,7 +10,7 @@ use Rattle.tables.specs.Shape.{one_to, table_size}
 use Rattle.sheets.specs.Answer.{form_fault}
 use Rattle.sheets.specs.Promises.{AcceptsExactly, Alike, Answers, Early}
 use Rattle.ledger.specs.Classes.{merged, merged_if_there}
-use Rattle.ledger.specs.Lines.{Has, line_of, used}
+use Rattle.ledger.specs.Lines.{Has, line_of}
 use Rattle.ledger.specs.Model.{Model}
 use Rattle.ledger.specs.Standing.{TwoTables, unless_two_tables}
 use Rattle.ledger.proofs.Keeping.{not_two, two_pass, two_refused}

@@ -1,19 +1,19 @@
 -- Each call leads a use of the book on: accepted exactly when none of its refusals holds, and with its effect then.
-use Rattle.std.proofs.Common.{◌≡◌, ℕ, ◌+◌, ◌<◌, Bool, true, false, eqb, ltb, List, ◌∷◌, length, is_ok, Some, None, Ok, Err, Option, Result, sym, refl, ap, ◌∙◌, subst, arith, MatchResult}
-use Rattle.std.proofs.lemmas.Bool.{eq-eqb, eqb-true, le-leb, lt-ltb, ltb-true}
+use Rattle.std.proofs.Common.{◌≡◌, ℕ, ◌+◌, true, false, List, length, is_ok, Some, None, Ok, Err, Option, Result, sym, refl, ap, ◌∙◌, arith, MatchResult}
+use Rattle.std.proofs.lemmas.Bool.{eq-eqb, eqb-true, le-leb, lt-ltb}
 use Rattle.kinds.specs.declared.fault.Fault.{Fault}
 use Rattle.kinds.specs.declared.fault.Refusal.TheVariants.{StateCount, NumberCount, NotAnEntry, NoSuchTable, NoSuchPart, TooManyTables, ShelfFull, WordRunLength}
-use Rattle.kinds.specs.Faults.{fault, fault_at, or_kept, or_refused}
+use Rattle.kinds.specs.Faults.{fault, fault_at, or_kept}
 use Rattle.kinds.specs.Numbers.{Numbers, is_entry}
 use Rattle.kinds.proofs.Refusing.{answer_passes, none_found, passed_test, refusal_refuses, renewed, test_passed}
-use Rattle.tables.specs.Shape.{most_states, table_size}
+use Rattle.tables.specs.Shape.{table_size}
 use Rattle.tables.specs.Words.{longest_word}
 use Rattle.tables.proofs.Admitted.{admits, admitted}
 use Rattle.tables.proofs.Firsts.{all_pass_none}
 use Rattle.ledger.specs.declared.asking.Comparison.{Comparison}
 use Rattle.ledger.specs.Ask.{ask_answer}
 use Rattle.ledger.specs.Lines.{most_tables, used}
-use Rattle.ledger.specs.Model.{Model, no_place}
+use Rattle.ledger.specs.Model.{Model}
 use Rattle.ledger.specs.Parts.{word_answer, word_fault}
 use Rattle.ledger.specs.Standing.{unless_table}
 use Rattle.uses.specs.declared.answers.Parted.{Parted}

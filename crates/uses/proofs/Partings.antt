@@ -1,5 +1,5 @@
 -- Two weights of a word in two tables of the book.
-use Rattle.std.proofs.Common.{◌≡◌, ℕ, ◌+◌, ◌<◌, Bool, true, false, not, List, length, Some, None, Ok, Err, Decides, Option, Result, sym, refl, ap, ◌∙◌, subst, arith}
+use Rattle.std.proofs.Common.{◌≡◌, ℕ, ◌+◌, Bool, true, false, not, List, length, Some, None, Ok, Err, Decides, Option, Result, sym, refl, ap, ◌∙◌, subst, arith}
 use Rattle.std.proofs.lemmas.Bool.{lt-ltb, ltb-true}
 use Rattle.kinds.specs.declared.fault.Fault.{Fault}
 use Rattle.kinds.specs.declared.fault.Refusal.TheVariants.{EqualWeights, TooManyParts}
@@ -24,7 +24,7 @@ use Rattle.ledger.proofs.Keeping.{keep_room, not_two, pair_two, two_pass, two_pa
 use Rattle.uses.specs.declared.answers.Parted.{Parted}
 use Rattle.uses.specs.declared.answers.Weights.{Weights}
 use Rattle.uses.specs.Holds.{Entered, Table, table_at}
-use Rattle.uses.specs.Part.{Apart, Differ, PartAnswers, Parts, TellsApart, differing, if_answered, part_answer, part_refusal, path_in, weights_answer, with_kept}
+use Rattle.uses.specs.Part.{Apart, PartAnswers, TellsApart, differing, if_answered, part_answer, part_refusal, path_in, weights_answer, with_kept}
 use Rattle.uses.specs.Weigh.{at_place, WeighedAt, weight_in}
 use Rattle.uses.proofs.Weighings.{standing_entries, stood, weighed_in}
 

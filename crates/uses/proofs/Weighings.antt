@@ -5,9 +5,8 @@ use Rattle.kinds.specs.declared.fault.Fault.{Fault}
 use Rattle.kinds.specs.declared.fault.Refusal.TheVariants.{OutOfRange, WordLength, NotAnEvent, NoSuchTable, StripLength}
 use Rattle.kinds.specs.Faults.{number_of, fault, fault_at, unless, unless_found}
 use Rattle.kinds.specs.Numbers.{Numbers}
-use Rattle.kinds.proofs.Refusing.{passed_test, test_passed}
+use Rattle.kinds.proofs.Refusing.{test_passed}
 use Rattle.tables.specs.declared.shape.Events.{Events}
-use Rattle.tables.specs.Shape.{one_to}
 use Rattle.tables.specs.Entries.{AllEntries}
 use Rattle.tables.specs.Layout.{value, Stored}
 use Rattle.tables.specs.Range.{PathFits}

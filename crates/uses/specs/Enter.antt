@@ -1,5 +1,5 @@
 -- What entering a table answers and leaves.
-use Rattle.std.specs.Prelude.{◌≡◌, ℕ, ◌+◌, ◌≤◌, Bool, true, false, List, length, Some, None, Option, Result, ◌==◌}
+use Rattle.std.specs.Prelude.{◌≡◌, ℕ, ◌+◌, ◌≤◌, List, length, Option, Result, ◌==◌}
 use Rattle.kinds.specs.declared.fault.Fault.{Fault}
 use Rattle.kinds.specs.declared.fault.Refusal.TheVariants.{StateCount, NumberCount, NotAnEntry}
 use Rattle.kinds.specs.Faults.{fault, unless, unless_found, or_refused, or_kept}

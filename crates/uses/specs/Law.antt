@@ -9,7 +9,7 @@ use Rattle.sheets.specs.Alike.{WordOver}
 use Rattle.ledger.specs.declared.asking.Comparison.{Comparison}
 use Rattle.ledger.specs.declared.asking.Comparison.TheVariants.{Same, Different}
 use Rattle.ledger.specs.Ask.{ask_answer}
-use Rattle.ledger.specs.Parts.{Kept, part_of, spelled, word_answer, word_run}
+use Rattle.ledger.specs.Parts.{part_of, spelled, word_answer, word_run}
 use Rattle.uses.specs.Calls.{Effect, State}
 use Rattle.uses.specs.History.{Between, History, Leads, Linked, Used, parts, standing, table, tables}
 use Rattle.uses.specs.Holds.{Table}

@@ -1,5 +1,5 @@
 -- What keeping a word that tells two tables apart answers and leaves.
-use Rattle.std.specs.Prelude.{◌≡◌, ℕ, ◌+◌, ◌<◌, ◌≤◌, Bool, true, not, List, length, IfOk, None, Ok, Err, Option, Result, MatchResult}
+use Rattle.std.specs.Prelude.{◌≡◌, ℕ, ◌+◌, ◌<◌, ◌≤◌, true, not, List, length, IfOk, None, Ok, Err, Option, Result, MatchResult}
 use Rattle.kinds.specs.declared.fault.Fault.{Fault}
 use Rattle.kinds.specs.declared.fault.Refusal.TheVariants.{EqualWeights}
 use Rattle.kinds.specs.Faults.{fault, then, unless, or_refused}

@@ -1,4 +1,4 @@
-use Rattle.std.proofs.Common.{◌≡◌, replicate, arith}
+use Rattle.std.proofs.Common.{replicate}
 use Rattle.std.proofs.lemmas.List.Edits.{paste_none}
 use Rattle.tables.specs.Words.{events_of, longest_word}
 use Rattle.ledger.proofs.Spelling.{stored_more, stored_all}

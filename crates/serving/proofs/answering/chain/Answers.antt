@@ -1,4 +1,4 @@
-use Rattle.std.proofs.Common.{◌≡◌, ℕ, length, refl, ap, ◌∙◌}
+use Rattle.std.proofs.Common.{◌≡◌, length, refl, ap, ◌∙◌}
 use Rattle.ledger.specs.View.{view}
 use Rattle.serving.specs.Chaining.{room_for}
 use Rattle.serving.specs.Answering.{chain_answer, chain_ledger, chain_shelf}

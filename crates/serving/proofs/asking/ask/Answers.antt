@@ -1,4 +1,4 @@
-use Rattle.std.proofs.Common.{◌≡◌, ℕ, map, Ok, sym, refl, ap, ◌∙◌, subst}
+use Rattle.std.proofs.Common.{◌≡◌, map, Ok, sym, refl, ap, ◌∙◌, subst}
 use Rattle.tables.specs.Words.{letter_of}
 use Rattle.ledger.specs.Ask.{ask_answer}
 use Rattle.ledger.specs.Parts.{HasPart, part_of}

@@ -1,4 +1,4 @@
-use Rattle.std.proofs.Common.{◌≡◌, ◌<◌, length, Err, sym, refl, ap, ◌∙◌, arith}
+use Rattle.std.proofs.Common.{◌<◌, length, Err, sym, refl, ap, ◌∙◌, arith}
 use Rattle.text.specs.Split.{left}
 use Rattle.statements.proofs.Fronted.{fronted_none, fronted_more, front_over, front_stops, run_is_overlaid, numbers_all, numbers_stop}
 use Rattle.statements.proofs.statements.read_run.Goals as goal

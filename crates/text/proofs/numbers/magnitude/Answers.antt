@@ -1,6 +1,6 @@
-use Rattle.std.proofs.Common.{◌≡◌, ℕ, ◌+◌, ◌*◌, ◌^◌, ◌<◌, length, get_or, drop, Some, None, sym, refl, ap, ◌∙◌, subst, inl, inr, ⊎_elim, arith, ltb-false}
+use Rattle.std.proofs.Common.{◌≡◌, ◌+◌, ◌*◌, length, get_or, drop, sym, ap, ◌∙◌, inl, inr, ⊎_elim, arith, ltb-false}
 use lib.Seq.{drop-length}
-use Rattle.text.specs.Numerals.{further, magnitude_of}
+use Rattle.text.specs.Numerals.{further}
 use Rattle.text.proofs.Digits.{further_digit, further_zero, further_none, more_digits, six_digits, digit_below, magnitude_more}
 use Rattle.text.proofs.numbers.magnitude.Goals as goal
 use Rattle.text.proofs.numbers.magnitude.Goals.{in-Digit, in-Zero-mark_of, After-loop-b}

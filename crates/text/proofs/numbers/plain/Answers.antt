@@ -1,4 +1,4 @@
-use Rattle.std.proofs.Common.{◌≡◌, sym, subst, rules}
+use Rattle.std.proofs.Common.{sym, subst, rules}
 use Rattle.text.specs.Numerals.{IsNumeral}
 use Rattle.text.proofs.Decimals.{numeral_law}
 use Rattle.text.proofs.numbers.plain.Goals as goal

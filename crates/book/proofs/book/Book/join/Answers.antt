@@ -2,7 +2,7 @@ use Rattle.std.proofs.Common.{◌≡◌, is_ok, Ok, Err, sym, refl, ap, ◌∙�
 use Rattle.std.proofs.lemmas.Result.{err_from_is_err_and}
 use Rattle.ledger.specs.Classes.{merged}
 use Rattle.ledger.specs.View.{view}
-use Rattle.uses.specs.Join.{EarlyJoin, Joined, JoinsExactly, AlikeInBook, with_merged}
+use Rattle.uses.specs.Join.{EarlyJoin, Joined, JoinsExactly, with_merged}
 use Rattle.uses.specs.Holds.{Entered}
 use Rattle.uses.proofs.Joinings.{accepted_joined, entered_merged, merged_there, refused_joined}
 use Rattle.uses.specs.Calls.{at, join as joins}

@@ -1,7 +1,7 @@
-use Rattle.std.proofs.Common.{◌≡◌, length, is_ok, Ok, Err, sym, refl, ap, ◌∙◌, subst}
+use Rattle.std.proofs.Common.{◌≡◌, length, is_ok, Err, sym, refl, ap, ◌∙◌, subst}
 use Rattle.std.proofs.lemmas.Result.{err_from_is_err_and}
 use Rattle.ledger.specs.View.{view}
-use Rattle.ledger.specs.Keep.{keep_fault, keep_parts}
+use Rattle.ledger.specs.Keep.{keep_fault}
 use Rattle.kinds.proofs.Refusing.{answer_passes, renewed}
 use Rattle.uses.specs.Holds.{Entered}
 use Rattle.uses.specs.Part.{PartAnswers, with_kept}

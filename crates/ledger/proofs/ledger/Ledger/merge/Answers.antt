@@ -1,7 +1,7 @@
-use Rattle.std.proofs.Common.{◌≡◌, ◌≤◌, min, max, length, take, sym, ap, ◌∙◌, subst, arith, rules}
+use Rattle.std.proofs.Common.{◌≡◌, ◌≤◌, min, max, length, take, sym, ◌∙◌, subst, arith, rules}
 use Rattle.std.proofs.lemmas.List.{length-take-le}
 use Rattle.std.proofs.lemmas.Bool.{cond-true}
-use Rattle.ledger.specs.Classes.{merged, merged_if_there}
+use Rattle.ledger.specs.Classes.{merged}
 use Rattle.ledger.specs.Lines.{Has, class_of}
 use Rattle.ledger.proofs.Appending.{Sound}
 use Rattle.tables.proofs.Limits.{one_to_from}

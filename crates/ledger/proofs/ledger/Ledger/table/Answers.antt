@@ -1,4 +1,4 @@
-use Rattle.std.proofs.Common.{◌≡◌, ℕ, ◌-◌, ◌≤◌, cond, length, get_or, take, Ok, Err, sym, ap, ◌∙◌, arith}
+use Rattle.std.proofs.Common.{◌≡◌, ℕ, ◌-◌, ◌≤◌, cond, get_or, Ok, Err, sym, ap, ◌∙◌, arith}
 use Rattle.kinds.specs.declared.fault.Refusal.TheVariants.{StateCount}
 use Rattle.kinds.specs.Faults.{fault}
 use Rattle.tables.specs.Shape.{states_answer, table_size}

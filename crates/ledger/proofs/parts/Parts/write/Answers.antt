@@ -1,4 +1,4 @@
-use Rattle.std.proofs.Common.{◌≡◌, map, set, ap, ◌∙◌}
+use Rattle.std.proofs.Common.{map, set, ap, ◌∙◌}
 use Rattle.std.proofs.lemmas.List.{map-set}
 use Rattle.ledger.specs.Stored.{meaning}
 use Rattle.ledger.proofs.parts.Parts.write.Goals as goal

@@ -1,7 +1,6 @@
-use Rattle.std.proofs.Common.{◌≡◌, suc, ◌+◌, ◌-◌, ◌<◌, ◌∷◌, length, take, drop, sym, refl, ap, ◌∙◌, subst, add-one, arith}
+use Rattle.std.proofs.Common.{suc, length, add-one, arith}
 use native.Mathlib.Nat.{sub-zero}
 use Rattle.std.proofs.lemmas.Slice.{between_to_end}
-use Rattle.text.specs.Split.{split, left}
 use Rattle.text.proofs.Cuts.{first_field, one_field}
 use Rattle.text.proofs.fields.Fields.next_field.Goals as goal
 

@@ -1,7 +1,7 @@
-use Rattle.std.proofs.Common.{◌≡◌, ◌+◌, ◌≤◌, ◌++◌, length, take, is_ok, vec_items, sym, refl, ap, ◌∙◌, subst, arith}
+use Rattle.std.proofs.Common.{◌+◌, ◌≤◌, ◌++◌, length, take, is_ok, vec_items, sym, ap, ◌∙◌, subst, arith}
 use native.Mathlib.Nat.{sub-zero}
 use Rattle.std.proofs.ResultArms.{chosen}
-use Rattle.text.specs.Input.{most_bytes, span, kept, SameTexts}
+use Rattle.text.specs.Input.{most_bytes, span, SameTexts}
 use Rattle.text.proofs.Pieces.{cut_after, same_texts}
 use Rattle.text.proofs.input.LineBuffer.take.Goals as goal
 

@@ -1,4 +1,4 @@
-use Rattle.std.proofs.Common.{◌≡◌, ◌-◌, ◌<◌, cond, length, get_or, take, Some, None, sym, ap, ◌∙◌, arith, ltb-false, ltb-true, eq-eqb, ne_eqb}
+use Rattle.std.proofs.Common.{◌-◌, cond, length, get_or, take, Some, None, sym, ap, ◌∙◌, arith, ltb-false, ltb-true, eq-eqb, ne_eqb}
 use Rattle.std.proofs.lemmas.List.{nil_from_length}
 use Rattle.text.specs.Input.{text_of}
 use Rattle.text.proofs.Pieces.{text_by_last}
