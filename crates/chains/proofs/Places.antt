@@ -1,7 +1,7 @@
 -- What stands where in lists that are made place by place.
 use Rattle.std.proofs.Common.{◌≡◌, ℕ, zero, suc, ◌+◌, ◌*◌, ◌<◌, List, [], ◌∷◌, ◌++◌, length, get_or, sym, ap, ◌∙◌, mul-le-mul_right, arith}
 use native.Mathlib.Decide.{dec_lt}
-use Rattle.std.specs.List.{AllByRecursion as All}
+use Rattle.std.specs.List.{AllByRecursion}
 use Rattle.std.proofs.ByRecursion.{All-append}
 use Rattle.std.proofs.lemmas.List.{length-append, get_or_append_left, get_or-append-add}
 use Rattle.tables.specs.Path.{listed}
@@ -33,10 +33,10 @@ module _ {A : Type 0} where
       ]
 
   -- what holds of each part holds of the whole
-  pub all_listed : (P : A → Type 0) (m : ℕ) (f : ℕ → A) → ((i : ℕ) → P (f i)) → All P (listed m f)
+  pub all_listed : (P : A → Type 0) (m : ℕ) (f : ℕ → A) → ((i : ℕ) → P (f i)) → AllByRecursion P (listed m f)
   all_listed P zero f h = tt
   all_listed P (suc m) f h = All-append P (listed m f) (f m ∷ []) (all_listed P m f h) (h m, tt)
 
-  pub all_joined : (P : A → Type 0) (m : ℕ) (g : ℕ → List A) → ((i : ℕ) → All P (g i)) → All P (joined m g)
+  pub all_joined : (P : A → Type 0) (m : ℕ) (g : ℕ → List A) → ((i : ℕ) → AllByRecursion P (g i)) → AllByRecursion P (joined m g)
   all_joined P zero g h = tt
   all_joined P (suc m) g h = All-append P (joined m g) (g m) (all_joined P m g h) (h m)

@@ -2,7 +2,7 @@
 use Rattle.std.proofs.Common.{◌≡◌, ℕ, suc, ◌+◌, ◌*◌, ◌<◌, ◌≤◌, true, List, length, ℤ, pos, ◌+ℤ◌, nat_abs, is_some, Some, None, Decides, Option, refl, ap, le_trans, mul-le-mul_right, suc-mul, arith, lit≤, le-leb, leb-true}
 use borrow.Author.Differences.{ints}
 use Rattle.std.specs.Int.{int_min}
-use Rattle.std.specs.List.{AllByRecursion as All}
+use Rattle.std.specs.List.{AllByRecursion}
 use Rattle.std.proofs.lemmas.Int.{clamps}
 use Rattle.kinds.specs.Semiring.{Cancels, total, product}
 use Rattle.kinds.specs.Numbers.{SumsOfEntryProductsFit}
@@ -41,13 +41,13 @@ within_smaller l (Some a) (Some b) p q = le-leb (nat_abs (int_min a b)) l (size_
 
 -- for any limits e of the entries and l of what fits
 module _ (e l : ℕ) (room : 3 * e ≤ l) where
-  product_within : (p : List (Option ℤ)) → All (λ v. none_or_within e v ≡ true) p → none_or_within (length p * e) (product least p) ≡ true
+  product_within : (p : List (Option ℤ)) → AllByRecursion (λ v. none_or_within e v ≡ true) p → none_or_within (length p * e) (product least p) ≡ true
   product_within = product_keeps least (λ v. none_or_within e v ≡ true) (λ n v. none_or_within (n * e) v ≡ true) (le-leb 0 (0 * e) (omega arith)) more
     where
       more : (n : ℕ) (x y : Option ℤ) → none_or_within e x ≡ true → none_or_within (n * e) y ≡ true → none_or_within (suc n * e) (together x y) ≡ true
       more n x y p q = none_or_within_larger (e + n * e) (suc n * e) (omega (arith, suc-mul n e)) (together x y) (within_together e (n * e) x y p q)
 
-  pub best_sums_within : (m : ℕ) (factors : ℕ → List (Option ℤ)) → ((i : ℕ) → i < m → (length (factors i) ≤ 3) × All (λ v. none_or_within e v ≡ true) (factors i)) → none_or_within l (total least m (λ i. product least (factors i))) ≡ true
+  pub best_sums_within : (m : ℕ) (factors : ℕ → List (Option ℤ)) → ((i : ℕ) → i < m → (length (factors i) ≤ 3) × AllByRecursion (λ v. none_or_within e v ≡ true) (factors i)) → none_or_within l (total least m (λ i. product least (factors i))) ≡ true
   best_sums_within m factors h = total_keeps least (λ v. none_or_within l v ≡ true) (λ n v. none_or_within l v ≡ true) refl (λ n. within_smaller l) m (λ i. product least (factors i)) each
     where
       each : (i : ℕ) → i < m → none_or_within l (product least (factors i)) ≡ true

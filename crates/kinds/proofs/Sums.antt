@@ -1,11 +1,11 @@
 -- What holds of every sum of products of entries, from what one factor more and one term more do.
 use Rattle.std.proofs.Common.{ℕ, zero, suc, ◌<◌, List, [], ◌∷◌, length, arith}
-use Rattle.std.specs.List.{AllByRecursion as All}
+use Rattle.std.specs.List.{AllByRecursion}
 use Rattle.kinds.specs.Semiring.{Semiring, total, product}
 
 module _ (s : Semiring) where
   -- P n v holds of a product v of n values that all keep Q, if it holds of one and of one factor more
-  pub product_keeps : (Q : s.Value → Type 0) (P : ℕ → s.Value → Type 0) → P 0 s.one → ((n : ℕ) (x y : s.Value) → Q x → P n y → P (suc n) (s.times x y)) → (p : List s.Value) → All Q p → P (length p) (product s p)
+  pub product_keeps : (Q : s.Value → Type 0) (P : ℕ → s.Value → Type 0) → P 0 s.one → ((n : ℕ) (x y : s.Value) → Q x → P n y → P (suc n) (s.times x y)) → (p : List s.Value) → AllByRecursion Q p → P (length p) (product s p)
   product_keeps Q P none more [] h = none
   product_keeps Q P none more (x ∷ p) h = more (length p) x (product s p) h.0 (product_keeps Q P none more p h.1)
 

@@ -1,6 +1,6 @@
 -- What a kind's numbers stand for.
 use Rattle.std.specs.Prelude.{◌≡◌, ℕ, ◌<◌, ◌≤◌, Bool, true, false, cond, List, length, Ok, Err, Decides, Result}
-use Rattle.std.specs.List.{AllByRecursion as All}
+use Rattle.std.specs.List.{AllByRecursion}
 use Rattle.kinds.specs.declared.fault.Fault.{Fault}
 use Rattle.kinds.specs.declared.fault.Refusal.TheVariants.{OutOfRange}
 use Rattle.kinds.specs.Faults.{fault, then}
@@ -67,5 +67,5 @@ module _ {K : Type 0} (n : Numbers K) where
   SumsOfEntryProductsFit =
       (m : ℕ) (factors : ℕ → List n.exact.Value)
       → m ≤ 16
-      → ((i : ℕ) → i < m → (length (factors i) ≤ 3) × All (λ v. n.entry v ≡ true) (factors i))
+      → ((i : ℕ) → i < m → (length (factors i) ≤ 3) × AllByRecursion (λ v. n.entry v ≡ true) (factors i))
       → n.fits (total n.exact m (λ i. product n.exact (factors i))) ≡ true

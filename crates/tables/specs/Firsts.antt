@@ -1,11 +1,11 @@
 -- The first element of a list that fails a test.
 use Rattle.std.specs.Prelude.{◌≡◌, ℕ, ◌+◌, ◌-◌, ◌<◌, ◌≤◌, Bool, true, false, cond, List, [], ◌∷◌, length, Some, None, Option, slice_index_or}
-use Rattle.std.specs.List.{AllByRecursion as All}
+use Rattle.std.specs.List.{AllByRecursion}
 
 module _ {A : Type 0} (test : A → Bool) where
   -- each element passes the test
   abbrev pub AllPass : List A → Type 0
-  AllPass xs = All (λ x. test x ≡ true) xs
+  AllPass xs = AllByRecursion (λ x. test x ≡ true) xs
 
   -- the place of the first element that fails the test, where the first element of all has place p
   abbrev pub first_failing : ℕ → List A → Option ℕ

@@ -1,6 +1,6 @@
 -- How a line's fields follow from the place of its first comma.
 use Rattle.std.proofs.Common.{◌≡◌, ℕ, zero, suc, ◌<◌, Bool, true, false, cond, eqb, List, [], ◌∷◌, length, get_or, take, drop, sym, refl, ap, ◌∙◌, arith, eq-eqb, ne_eqb, eqb-true}
-use Rattle.std.specs.List.{AllByRecursion as All}
+use Rattle.std.specs.List.{AllByRecursion}
 use Rattle.text.specs.Split.{split, onto, joined, AreFieldsOf}
 
 -- no comma below n
@@ -53,7 +53,7 @@ joined_split (b ∷ bs) = by_case (eqb b 44) refl (joined_split bs)
 
 -- a list of fields without a comma
 abbrev Plain : List (List ℕ) → Type 0
-Plain fs = All (λ f. All (λ c. eqb c 44 ≡ false) f) fs
+Plain fs = AllByRecursion (λ f. AllByRecursion (λ c. eqb c 44 ≡ false) f) fs
 
 plain_split : (s : List ℕ) → Plain (split s)
 plain_split [] = (tt, tt)

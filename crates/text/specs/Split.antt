@@ -1,6 +1,6 @@
 -- A line's fields, parted by commas (byte 44).
 use Rattle.std.specs.Prelude.{◌≡◌, ℕ, ◌<◌, false, cond, List, [], ◌∷◌, ◌++◌, length, Some, None, ◌==◌}
-use Rattle.std.specs.List.{AllByRecursion as All}
+use Rattle.std.specs.List.{AllByRecursion}
 use Rattle.text.specs.declared.fields.Fields.{Fields}
 
 -- a byte in front of the first of some pieces
@@ -31,4 +31,4 @@ joined (f ∷ fs) = joined_behind f fs
 pub record AreFieldsOf (line : List ℕ) (fs : List (List ℕ)) : Type 0 where
   pub some : 0 < length fs
   pub whole : joined fs ≡ line
-  pub plain : All (λ f. All (λ b. (b == 44) ≡ false) f) fs
+  pub plain : AllByRecursion (λ f. AllByRecursion (λ b. (b == 44) ≡ false) f) fs

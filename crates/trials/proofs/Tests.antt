@@ -1,6 +1,6 @@
 -- A test for each kind of example, and that an example holds if it passes.
 use Rattle.std.proofs.Common.{◌≡◌, ℕ, ◌+◌, ◌*◌, ◌≤◌, Bool, true, false, not, ◌&&◌, eqb, leb, List, [], ◌∷◌, length, Some, None, Ok, Err, Decides, Option, Result, sym, refl, ap, ◌∙◌, subst, arith}
-use Rattle.std.specs.List.{AllByRecursion as All}
+use Rattle.std.specs.List.{AllByRecursion}
 use Rattle.std.proofs.lemmas.Bool.{and_parts, eqb-true, leb-true}
 use Rattle.std.proofs.lemmas.Bool.Decides.{Decides-not}
 use Rattle.kinds.specs.declared.fault.Fault.{Fault}
@@ -215,7 +215,7 @@ abbrev all_pass : List Row → Bool
 all_pass [] = true
 all_pass (r ∷ rows) = passes r.example && all_pass rows
 
-all_hold_if : (rows : List Row) → all_pass rows ≡ true → All (λ r. Holds r.example) rows
+all_hold_if : (rows : List Row) → all_pass rows ≡ true → AllByRecursion (λ r. Holds r.example) rows
 all_hold_if [] e = tt
 all_hold_if (r ∷ rows) e = let p = and_parts _ _ e in (holds_if r.example p.0, all_hold_if rows p.1)
 

@@ -1,6 +1,6 @@
 -- Worked examples: each is a row of data, and what a row says is said by the rules alone.
 use Rattle.std.specs.Prelude.{◌≡◌, ℕ, List, [], ◌∷◌, ℤ, pos, Some, None, Ok, Err, codes, Result, ◌≢◌}
-use Rattle.std.specs.List.{AllByRecursion as All}
+use Rattle.std.specs.List.{AllByRecursion}
 use Rattle.kinds.specs.declared.best.Best.{Best}
 use Rattle.kinds.specs.declared.count.Count.{Count}
 use Rattle.kinds.specs.declared.fault.Fault.{Fault}
@@ -227,4 +227,4 @@ worked_examples =
 
 -- every row holds
 abbrev pub WorkedExamplesHold : Type 0
-WorkedExamplesHold = All (λ r. Holds r.example) worked_examples
+WorkedExamplesHold = AllByRecursion (λ r. Holds r.example) worked_examples
