@@ -71,3 +71,12 @@ module _ (k : ℕ) (word : List ℕ) (strip : ℕ) where
 
   pub admits : Admitted k word strip → weigh_fault k word strip ≡ None
   admits a = word_admits k word _ a.short a.events ∙ test_passed _ (fault StripLength) None (eq-eqb strip strip_size a.strip_of_sixteen)
+
+module _ (k : ℕ) (word : List ℕ) (strip : ℕ) (none : weigh_fault k word strip ≡ None) where
+  -- each byte is an event
+  pub admitted_events : AllEvents k word
+  admitted_events = (admitted k word strip none).events
+
+  -- the strip has its size
+  pub admitted_strip : strip ≡ strip_size
+  admitted_strip = (admitted k word strip none).strip_of_sixteen
