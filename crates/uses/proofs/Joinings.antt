@@ -12,11 +12,11 @@ use Rattle.sheets.specs.Promises.{AcceptsExactly, Alike, Answers, Early}
 use Rattle.ledger.specs.Classes.{merged, merged_if_there}
 use Rattle.ledger.specs.Lines.{Has, line_of}
 use Rattle.ledger.specs.Model.{Model}
-use Rattle.ledger.specs.Standing.{TwoTables, unless_two_tables}
+use Rattle.ledger.specs.Standing.{unless_two_tables}
 use Rattle.ledger.proofs.Keeping.{not_two, two_pass, two_refused}
 use Rattle.ledger.proofs.Merging.{line_merged, merged_as_many, used_merged}
 use Rattle.uses.specs.Holds.{Entered, Table, part, table_at}
-use Rattle.uses.specs.Join.{AlikeInBook, Answered, EarlyJoin, Joined, JoinsExactly, join_fault, width, with_merged}
+use Rattle.uses.specs.Join.{AlikeInBook, Answered, EarlyJoin, Joined, JoinsExactly, TwoTables, join_fault, width, with_merged}
 
 -- what the check of a sheet says of two tables
 pub record SheetSays {K : Type 0} (N : Numbers K) (k : ℕ) (s t : Table K) (R : ℕ) (sheet : List K) (r : Result (Unit {0}) Fault) : Type 0 where
@@ -31,13 +31,13 @@ pub record JoinSays {K : Type 0} (N : Numbers K) (m : Model) (shelf : List K) (a
   pub answer : Entered N m shelf → Answered N m shelf a b R sheet r
   pub exactly : Entered N m shelf → JoinsExactly N m shelf a b R sheet r
   pub alike : Entered N m shelf → r ≡ Ok tt → AlikeInBook N m shelf a b R sheet
-  pub two : r ≡ Ok tt → TwoTables m.lines a b
+  pub two : r ≡ Ok tt → TwoTables m a b
 
 has_of : (m : Model) (i : ℕ) → one_to (length m.lines) i ≡ true → Has m.lines i
 has_of m i e = let h = and_parts (leb 1 i) (leb i (length m.lines)) e in (leb-true 1 i h.0, leb-true i (length m.lines) h.1)
 
 module _ {K : Type 0} (N : Numbers K) (m : Model) (shelf : List K) (a b R : ℕ) (sheet : List K) where
-  pub checked_in_book : TwoTables m.lines a b → (r : Result (Unit {0}) Fault) → SheetSays N m.events (table_at m shelf a) (table_at m shelf b) R sheet r → JoinSays N m shelf a b R sheet r
+  pub checked_in_book : TwoTables m a b → (r : Result (Unit {0}) Fault) → SheetSays N m.events (table_at m shelf a) (table_at m shelf b) R sheet r → JoinSays N m shelf a b R sheet r
   checked_in_book two r says =
       let entries_a : Entered N m shelf → AllEntries N (table_at m shelf a).run = λ e. let h = has_of m a two.first in e.entries a h.0 h.1 in
       let entries_b : Entered N m shelf → AllEntries N (table_at m shelf b).run = λ e. let h = has_of m b two.second in e.entries b h.0 h.1 in
@@ -77,7 +77,7 @@ module _ {K : Type 0} (N : Numbers K) (m : Model) (shelf : List K) (a b R : ℕ)
   accepted_joined after is s = (s.0, s.1, (s.2, is ∙ sym (renewed (join_fault N m shelf a b R sheet s.0) m (with_merged m a b) (answer_passes (join_fault N m shelf a b R sheet s.0) (tt {0}) tt s.2).0)))
 
 -- the lines where both tables are there
-pub merged_there : (m : Model) (a b : ℕ) → TwoTables m.lines a b → merged_if_there a b m.lines ≡ merged a b m.lines
+pub merged_there : (m : Model) (a b : ℕ) → TwoTables m a b → merged_if_there a b m.lines ≡ merged a b m.lines
 merged_there m a b two = cond-true _ _ _ two.first ∙ cond-true _ _ _ two.second
 
 -- the tables stay what they were

@@ -12,7 +12,6 @@ use Rattle.tables.specs.Path.{path_answer}
 use Rattle.tables.specs.Range.{PathFits}
 use Rattle.tables.specs.Weighing.{weigh_fault, answered, word_weight}
 use Rattle.tables.specs.Words.{events_of}
-use Rattle.tables.specs.declared.shape.Events.{Events}
 use Rattle.tables.proofs.Admitted.{admits, admitted, word_admits}
 use Rattle.tables.proofs.Ranges.{path_is_weight}
 use Rattle.ledger.specs.Model.{Model}
@@ -133,11 +132,11 @@ module _ {K : Type 0} (N : Numbers K) (m : Model) (shelf : List K) (a b : ℕ) (
     entries_b = standing_entries N m shelf b s.second stand.1
 
     -- a weight of the first table, and one of the second, for a strip as long
-    pub of_first : (e : Events) → e.count ≡ k → (r : Result K Fault) → WeighedAt N (stood shelf s.first) e.count 1 word strip r → WeighedAt N A k 1 word strip r
-    of_first e is r w = weighed_in N m shelf a s.first stand.0 e is 1 word strip r w
+    pub of_first : (l : ℕ) → l ≡ k → (r : Result K Fault) → WeighedAt N (stood shelf s.first) l 1 word strip r → WeighedAt N A k 1 word strip r
+    of_first l is r w = weighed_in N m shelf a s.first stand.0 l is 1 word strip r w
 
-    pub of_second : (e : Events) → e.count ≡ k → (n : ℕ) → n ≡ strip → (r : Result K Fault) → WeighedAt N (stood shelf s.second) e.count 2 word n r → WeighedAt N B k 2 word strip r
-    of_second e is n long r w = subst (λ i. WeighedAt N B k 2 word i r) long (weighed_in N m shelf b s.second stand.1 e is 2 word n r w)
+    pub of_second : (l : ℕ) → l ≡ k → (n : ℕ) → n ≡ strip → (r : Result K Fault) → WeighedAt N (stood shelf s.second) l 2 word n r → WeighedAt N B k 2 word strip r
+    of_second l is n long r w = subst (λ i. WeighedAt N B k 2 word i r) long (weighed_in N m shelf b s.second stand.1 l is 2 word n r w)
 
     -- what is asked behind the tables
     behind : part_refusal N m shelf a b word strip ≡ weigh_fault k word strip

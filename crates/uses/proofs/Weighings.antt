@@ -6,7 +6,6 @@ use Rattle.kinds.specs.declared.fault.Refusal.TheVariants.{OutOfRange, WordLengt
 use Rattle.kinds.specs.Faults.{number_of, fault, fault_at, unless, unless_found}
 use Rattle.kinds.specs.Numbers.{Numbers}
 use Rattle.kinds.proofs.Refusing.{test_passed}
-use Rattle.tables.specs.declared.shape.Events.{Events}
 use Rattle.tables.specs.Entries.{AllEntries}
 use Rattle.tables.specs.Layout.{value, Stored}
 use Rattle.tables.specs.Range.{PathFits}
@@ -109,15 +108,15 @@ module _ {K : Type 0} (N : Numbers K) (m : Model) (shelf : List K) (i : ℕ) (s 
   standing_entries e = let h = and_parts (leb 1 i) (leb i (length m.lines)) stands.there in e.entries i (leb-true 1 i h.0) (leb-true i (length m.lines) h.1)
 
   -- a word that is weighed in it is weighed in that table
-  pub weighed_in : (e : Events) → ◌≡◌ {A = ℕ} e.count m.events → (p : ℕ) (word : List ℕ) (strip : ℕ) (r : Result K Fault) → WeighedAt N (stood shelf s) e.count p word strip r → WeighedAt N (table_at m shelf i) m.events p word strip r
-  weighed_in e is p word strip r there =
+  pub weighed_in : (k : ℕ) → k ≡ m.events → (p : ℕ) (word : List ℕ) (strip : ℕ) (r : Result K Fault) → WeighedAt N (stood shelf s) k p word strip r → WeighedAt N (table_at m shelf i) m.events p word strip r
+  weighed_in k is p word strip r there =
       subst (λ t. WeighedAt N t m.events p word strip r) standing_is
-      (subst (λ k. WeighedAt N (stood shelf s) k p word strip r) is there)
+      (subst (λ l. WeighedAt N (stood shelf s) l p word strip r) is there)
 
   -- and in the book
-  pub weighed_there : (e : Events) → ◌≡◌ {A = ℕ} e.count m.events → (word : List ℕ) (strip : ℕ) (r : Result K Fault) → WeighedAt N (stood shelf s) e.count 1 word strip r → Weighed N m shelf i word strip r
-  weighed_there e is word strip r there =
-      let here : WeighedAt N (table_at m shelf i) m.events 1 word strip r = weighed_in e is 1 word strip r there in
+  pub weighed_there : (word : List ℕ) (strip : ℕ) (r : Result K Fault) → WeighedAt N (stood shelf s) m.events 1 word strip r → Weighed N m shelf i word strip r
+  weighed_there word strip r there =
+      let here : WeighedAt N (table_at m shelf i) m.events 1 word strip r = weighed_in m.events refl 1 word strip r there in
       let after : weigh_refusal m i word strip ≡ weigh_fault m.events word strip = test_passed _ (fault_at NoSuchTable 1) _ stands.there in
       record {
         early = λ f e. here.early f (sym after ∙ e);

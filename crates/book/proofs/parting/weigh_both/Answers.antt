@@ -19,7 +19,7 @@ returns-in_err-first g c =
     let p = err_from_is_err_and c.from_residual-in_err-first.result c.from_residual-in_err-first.ensures.1 in
     let is : c.from_residual-in_err-first.result ≡ Err c.in_err-first.field-0.0 = p.1 ∙ ap Err p.2 in
     let f = c.in_err-first.field-0.0 in
-    let w = of_first n m shelf c.args.a c.args.b word strip s stand c.events.result (ap (λ e. e.count) c.events.ensures) (Err f) c.in_err-first.ensures.answer in
+    let w = of_first n m shelf c.args.a c.args.b word strip s stand c.events.result.count (ap (λ e. e.count) c.events.ensures) (Err f) c.in_err-first.ensures.answer in
     record {
       answer = subst (Apart n m shelf c.args.a c.args.b word strip) (sym is) (apart_first n m shelf c.args.a c.args.b word strip s stand f w);
       kept = λ e. c.weigh_at.ensures.strip ∙ cond-false _ _ _ e;
@@ -37,9 +37,9 @@ returns-in_err-second g c =
     let p = err_from_is_err_and c.from_residual-in_err-second.result c.from_residual-in_err-second.ensures.1 in
     let is : c.from_residual-in_err-second.result ≡ Err c.in_err-second.field-0.0 = p.1 ∙ ap Err p.2 in
     let f = c.in_err-second.field-0.0 in
-    let w = of_first n m shelf c.args.a c.args.b word strip s stand c.events.result (ap (λ e. e.count) c.events.ensures) (Ok c.in_ok-first.first) c.in_ok-first.ensures.answer in
+    let w = of_first n m shelf c.args.a c.args.b word strip s stand c.events.result.count (ap (λ e. e.count) c.events.ensures) (Ok c.in_ok-first.first) c.in_ok-first.ensures.answer in
     let long : length c.weigh_at.new.strip ≡ length c.args.strip.now = c.weigh_at.auto.strip in
-    let v = of_second n m shelf c.args.a c.args.b word strip s stand c.events-2.result (ap (λ e. e.count) c.events-2.ensures) (length c.weigh_at.new.strip) long (Err f) c.in_err-second.ensures.answer in
+    let v = of_second n m shelf c.args.a c.args.b word strip s stand c.events-2.result.count (ap (λ e. e.count) c.events-2.ensures) (length c.weigh_at.new.strip) long (Err f) c.in_err-second.ensures.answer in
     record {
       answer = subst (Apart n m shelf c.args.a c.args.b word strip) (sym is) (apart_second n m shelf c.args.a c.args.b word strip s stand c.in_ok-first.first w f v);
       kept = λ e. c.weigh_at-2.ensures.strip ∙ cond-false _ _ _ (ap (λ i. eqb i strip_size) long ∙ e) ∙ c.weigh_at.ensures.strip ∙ cond-false _ _ _ e;
@@ -54,9 +54,9 @@ returns-then-equal g c =
     let strip = length c.args.strip.now in
     let s = c.in_ok-two.two in
     let stand = c.in_ok-two.ensures in
-    let w = of_first n m shelf c.args.a c.args.b word strip s stand c.events.result (ap (λ e. e.count) c.events.ensures) (Ok c.in_ok-first.first) c.in_ok-first.ensures.answer in
+    let w = of_first n m shelf c.args.a c.args.b word strip s stand c.events.result.count (ap (λ e. e.count) c.events.ensures) (Ok c.in_ok-first.first) c.in_ok-first.ensures.answer in
     let long : length c.weigh_at.new.strip ≡ length c.args.strip.now = c.weigh_at.auto.strip in
-    let v = of_second n m shelf c.args.a c.args.b word strip s stand c.events-2.result (ap (λ e. e.count) c.events-2.ensures) (length c.weigh_at.new.strip) long (Ok c.in_ok-second.second) c.in_ok-second.ensures.answer in
+    let v = of_second n m shelf c.args.a c.args.b word strip s stand c.events-2.result.count (ap (λ e. e.count) c.events-2.ensures) (length c.weigh_at.new.strip) long (Ok c.in_ok-second.second) c.in_ok-second.ensures.answer in
     record {
       answer = subst (λ f. Apart n m shelf c.args.a c.args.b word strip (Err f)) (sym c.of.ensures) (apart_equal n m shelf c.args.a c.args.b word strip s stand c.in_ok-first.first w c.in_ok-second.second v c.equal.result c.equal.ensures c.if-equal.true);
       kept = λ e. c.weigh_at-2.ensures.strip ∙ cond-false _ _ _ (ap (λ i. eqb i strip_size) long ∙ e) ∙ c.weigh_at.ensures.strip ∙ cond-false _ _ _ e;
@@ -71,9 +71,9 @@ returns g c =
     let strip = length c.args.strip.now in
     let s = c.in_ok-two.two in
     let stand = c.in_ok-two.ensures in
-    let w = of_first n m shelf c.args.a c.args.b word strip s stand c.events.result (ap (λ e. e.count) c.events.ensures) (Ok c.in_ok-first.first) c.in_ok-first.ensures.answer in
+    let w = of_first n m shelf c.args.a c.args.b word strip s stand c.events.result.count (ap (λ e. e.count) c.events.ensures) (Ok c.in_ok-first.first) c.in_ok-first.ensures.answer in
     let long : length c.weigh_at.new.strip ≡ length c.args.strip.now = c.weigh_at.auto.strip in
-    let v = of_second n m shelf c.args.a c.args.b word strip s stand c.events-2.result (ap (λ e. e.count) c.events-2.ensures) (length c.weigh_at.new.strip) long (Ok c.in_ok-second.second) c.in_ok-second.ensures.answer in
+    let v = of_second n m shelf c.args.a c.args.b word strip s stand c.events-2.result.count (ap (λ e. e.count) c.events-2.ensures) (length c.weigh_at.new.strip) long (Ok c.in_ok-second.second) c.in_ok-second.ensures.answer in
     record {
       answer = apart_differ n m shelf c.args.a c.args.b word strip s stand c.in_ok-first.first w c.in_ok-second.second v c.equal.result c.equal.ensures c.if-equal.false;
       kept = λ e. c.weigh_at-2.ensures.strip ∙ cond-false _ _ _ (ap (λ i. eqb i strip_size) long ∙ e) ∙ c.weigh_at.ensures.strip ∙ cond-false _ _ _ e;
