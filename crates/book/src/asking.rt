@@ -11,6 +11,7 @@ use kinds::fault::Fault;
 use kinds::kind::Kind;
 use ledger::asking::Comparison;
 
+// The calls of a book take two tables, a word and a strip, or a sheet, one by one, as the rules of the calls name them.
 impl<'a, K: Kind> Book<'a, K> {
     /// What is known of two tables: same, different by a part, or unknown; refused where one is not in the book.
     /// Whatever use of a book led here, the answer is true of all words, and no further use withdraws it.

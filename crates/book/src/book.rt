@@ -10,14 +10,15 @@ ghost use Rattle.uses.specs.History.{LeadsOn, Used};
 ghost use Rattle.uses.specs.Enter.{TableEntered, enter_answer, enter_ledger, enter_shelf};
 
 use crate::placing::place;
+use crate::reading::Reader;
 use crate::shelf::lay;
-use crate::weighing::weigh_in;
 use kinds::fault::Fault;
 use kinds::kind::Kind;
 use ledger::ledger::Ledger;
 use tables::shape::Events;
 
 /// A ledger, and a lent shelf on which each table's numbers stand from the place that its line names.
+// That these numbers are entries is a premise of the calls' promises and no invariant of the book: a rule of the project.
 #[derive(Drop)]
 pub struct Book<'a, K: Kind> {
     pub(crate) shelf: &'a mut [K],
@@ -35,6 +36,17 @@ impl<'a, K: Kind> Book<'a, K> {
         Book {
             shelf,
             ledger: Ledger::new(events),
+        }
+    }
+
+    /// The book, to be read.
+    pub(crate) fn reader(&self) -> Reader<'_, K>
+        ensures ledger { result.ledger.now ≡ self.now.ledger }
+        ensures shelf { result.shelf.now ≡ self.now.shelf.now }
+    {
+        Reader {
+            ledger: &self.ledger,
+            shelf: self.shelf,
         }
     }
 
@@ -68,6 +80,6 @@ impl<'a, K: Kind> Book<'a, K> {
         ensures strip { strip.new ≡ cleared K.Kind.numbers strip.old }
         ensures leads { LeadsOn K.Kind.numbers (at (view self.now.ledger) self.now.shelf.now) (weighs table word.now strip.old) (is_ok result) (at (view self.now.ledger) self.now.shelf.now) }
     {
-        weigh_in(&self.ledger, self.shelf, table, word, strip)
+        self.reader().weigh(table, word, strip)
     }
 }

@@ -11,13 +11,15 @@ ghost use Rattle.uses.specs.Law.{LawAt};
 ghost use Rattle.uses.specs.Weigh.{Weighed};
 
 use crate::book::Book;
-use crate::weighing::weigh_in;
+use crate::reading::Reader;
 use kinds::fault::Fault;
 use kinds::kind::Kind;
 use ledger::asking::Comparison;
 use ledger::ledger::Ledger;
 
 /// The ledger and the shelf of a book that was closed.
+// A struct of its own, and no state in the type of `Book`: the open book is asked for writing and this one for reading, so a
+// common impl would hold `weigh` and `word` alone, each of one line.
 #[derive(Drop)]
 pub struct Closed<'a, K: Kind> {
     shelf: &'a mut [K],
@@ -44,7 +46,11 @@ impl<'a, K: Kind> Closed<'a, K> {
         ensures strip { strip.new ≡ cleared K.Kind.numbers strip.old }
         ensures leads { LeadsOn K.Kind.numbers (at (view self.now.ledger) self.now.shelf.now) (weighs table word.now strip.old) (is_ok result) (at (view self.now.ledger) self.now.shelf.now) }
     {
-        weigh_in(&self.ledger, self.shelf, table, word, strip)
+        let reader = Reader {
+            ledger: &self.ledger,
+            shelf: self.shelf,
+        };
+        reader.weigh(table, word, strip)
     }
 
     /// The word of a part, as the open book gives it.

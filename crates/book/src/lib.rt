@@ -7,5 +7,6 @@ pub mod closing;
 mod joining;
 mod parting;
 mod placing;
+mod reading;
 mod shelf;
 mod weighing;

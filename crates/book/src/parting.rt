@@ -1,6 +1,6 @@
 //! Keeping words that tell tables apart, and handing them out.
-ghost use Rattle.std.specs.Prelude.{◌≡◌, false, length, is_ok, MatchResult, ◌==◌};
-ghost use Rattle.tables.specs.Strip.{cleared, strip_size};
+ghost use Rattle.std.specs.Prelude.{◌≡◌, length, is_ok, MatchResult};
+ghost use Rattle.tables.specs.Strip.{cleared};
 ghost use Rattle.ledger.specs.Parts.{word_answer, word_run};
 ghost use Rattle.ledger.specs.View.{view};
 ghost use Rattle.uses.specs.Calls.{at, part as parts, word as words};
@@ -9,66 +9,38 @@ ghost use Rattle.uses.specs.Holds.{Entered};
 ghost use Rattle.uses.specs.Part.{Apart, PartAnswers, with_kept};
 
 use crate::book::Book;
-use crate::weighing::weigh_at;
+use crate::reading::Reader;
 use kinds::fault::{Fault, Refusal};
 use kinds::kind::Kind;
-use ledger::ledger::Ledger;
 use tables::weighing::clear;
 use uses::answers::{Parted, Weights};
 
-/// What a word weighs in two different tables of the book, if it weighs differently in them.
-fn weigh_both<K: Kind>(
-    ledger: &Ledger,
-    shelf: &[K],
-    a: usize,
-    b: usize,
-    word: &[u8],
-    strip: &mut [K],
-) -> Result<Weights<K>, Fault>
-    ensures answer { Apart K.Kind.numbers (view ledger.now) shelf.now a b word.now (length strip.old) result }
-    ensures kept { (length strip.old == strip_size) ≡ false → strip.new ≡ strip.old }
-{
-    let two = ledger.two_tables(a, b)?;
-    let first = weigh_at(ledger.events(), shelf, two.first, 1, word, strip)?;
-    let second = weigh_at(ledger.events(), shelf, two.second, 2, word, strip)?;
-    if first.equal(second) {
-        return Err(Fault::of(Refusal::EqualWeights));
-    }
-    Ok(Weights { first, second })
-}
-
-/// The same; a strip of sixteen numbers is all zero afterwards, any other as it was.
-fn weigh_apart<K: Kind>(
-    ledger: &Ledger,
-    shelf: &[K],
-    a: usize,
-    b: usize,
-    word: &[u8],
-    strip: &mut [K],
-) -> Result<Weights<K>, Fault>
-    ensures answer { Apart K.Kind.numbers (view ledger.now) shelf.now a b word.now (length strip.old) result }
-    ensures strip { strip.new ≡ cleared K.Kind.numbers strip.old }
-{
-    let weights = weigh_both(ledger, shelf, a, b, word, strip);
-    clear(strip);
-    weights
-}
-
-impl<'a, K: Kind> Book<'a, K> {
-    /// The weights of a word that is to be kept, which only reads the book.
-    fn check_part(
+impl<'a, K: Kind> Reader<'a, K> {
+    /// What a word weighs in two different tables of the book, if it weighs differently in them. A strip of sixteen numbers
+    /// is all zero afterwards, any other as it was.
+    fn weigh_apart(
         &self,
         a: usize,
         b: usize,
         word: &[u8],
         strip: &mut [K],
     ) -> Result<Weights<K>, Fault>
-        ensures answer { Apart K.Kind.numbers (view self.now.ledger) self.now.shelf.now a b word.now (length strip.old) result }
+        ensures answer { Apart K.Kind.numbers (view self.now.ledger.now) self.now.shelf.now a b word.now (length strip.old) result }
         ensures strip { strip.new ≡ cleared K.Kind.numbers strip.old }
     {
-        weigh_apart(&self.ledger, self.shelf, a, b, word, strip)
+        // First, so that the strip is clear however the call ends.
+        clear(strip);
+        let two = self.ledger.two_tables(a, b)?;
+        let first = self.weigh_at(two.first, 1, word, strip)?;
+        let second = self.weigh_at(two.second, 2, word, strip)?;
+        if first.equal(second) {
+            return Err(Fault::of(Refusal::EqualWeights));
+        }
+        Ok(Weights { first, second })
     }
+}
 
+impl<'a, K: Kind> Book<'a, K> {
     /// Keeps a word that weighs differently in two tables, and answers the part's number and both weights, or the first
     /// refusal that holds. The strip is scratch; one of sixteen numbers is all zero afterwards, any other as it was.
     pub fn part(
@@ -85,7 +57,7 @@ impl<'a, K: Kind> Book<'a, K> {
         ensures entries { Entered K.Kind.numbers (view self.old.ledger) self.old.shelf.now → Entered K.Kind.numbers (view self.new.ledger) self.new.shelf.now }
         ensures leads { LeadsOn K.Kind.numbers (at (view self.old.ledger) self.old.shelf.now) (parts a b word.now strip.old) (is_ok result) (at (view self.new.ledger) self.new.shelf.now) }
     {
-        let weights = self.check_part(a, b, word, strip)?;
+        let weights = self.reader().weigh_apart(a, b, word, strip)?;
         let part = self.ledger.keep(a, b, word)?;
         Ok(Parted {
             part,

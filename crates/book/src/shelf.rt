@@ -26,16 +26,13 @@ pub(crate) fn lay<K: Copy>(shelf: &mut [K], at: usize, run: &[K])
     requires { at + length run.now ≤ length shelf.old }
     ensures { shelf.new ≡ laid shelf.old at run.now }
 {
-    for (i, x) in run.iter().enumerate() {
-        shelf[at + i] = *x;
-    }
+    shelf[at..at + run.len()].copy_from_slice(run);
 }
 
 /// The numbers of a shelf from a place on, counted from 0, so many, or as many of them as there are.
 pub(crate) fn part<K: Copy>(shelf: &[K], at: usize, size: usize) -> &[K]
     ensures { result.now ≡ part shelf.now at size }
 {
-    let start = at.min(shelf.len());
-    let end = start + size.min(shelf.len() - start);
-    &shelf[start..end]
+    let rest = &shelf[at.min(shelf.len())..];
+    &rest[..size.min(rest.len())]
 }

@@ -1,16 +1,16 @@
 -- What is known of a chain that nothing refuses.
-use Rattle.std.proofs.Common.{◌≡◌, ℕ, suc, ◌+◌, ◌*◌, ◌<◌, ◌≤◌, true, eqb, List, length, ℤ, pos, nat_abs, None, Ok, sym, refl, ap, ◌∙◌, le_trans, arith, lit≤}
+use Rattle.std.proofs.Common.{◌≡◌, ℕ, suc, ◌+◌, ◌*◌, ◌<◌, ◌≤◌, true, eqb, List, length, ℤ, pos, nat_abs, None, Ok, sym, refl, ap, ap₂, ◌∙◌, le_trans, arith, lit≤}
 use Rattle.std.proofs.ByRecursion.{All-get_or, All-append}
-use Rattle.std.proofs.lemmas.Bool.{le-leb, eqb-true, cond-true, cond_both}
+use Rattle.std.proofs.lemmas.Bool.{le-leb, cond-true, cond_both}
 use Rattle.kinds.specs.declared.count.Count.{Count}
-use Rattle.kinds.specs.declared.fault.Refusal.TheVariants.{EventCount, StateCount, NumberCount, ScaleRange, Letters, ProbabilityRange, RowSum, OutputLength}
+use Rattle.kinds.specs.declared.fault.Refusal.TheVariants.{EventCount, StateCount, NumberCount, ScaleRange, Letters, ProbabilityRange, RowSum}
 use Rattle.kinds.specs.Faults.{fault}
 use Rattle.kinds.specs.Numbers.{is_entry, zero_of, one_of}
 use Rattle.kinds.specs.Whole.{whole}
 use Rattle.kinds.specs.Limits.{largest_fit, largest_entry}
 use Rattle.kinds.specs.Count.{counts, equal_whole, equal_whole_decides}
 use Rattle.kinds.proofs.Refusing.{passed_test, found_none, choice_passes}
-use Rattle.tables.specs.Shape.{most_events, most_states, one_to, events_answer, states_answer, table_size}
+use Rattle.tables.specs.Shape.{most_events, most_states, one_to, events_answer, states_answer}
 use Rattle.tables.specs.Words.{first_stray}
 use Rattle.tables.specs.Entries.{AllEntries}
 use Rattle.tables.specs.Layout.{number_at, value}
@@ -18,7 +18,6 @@ use Rattle.tables.specs.Path.{listed}
 use Rattle.tables.proofs.Firsts.{first_is_first}
 use Rattle.tables.proofs.Limits.{one_to_parts}
 use Rattle.tables.proofs.Sequences.{total_cong}
-use Rattle.tables.proofs.Sizes.{size_small}
 use Rattle.chains.specs.Gates.{AddUp}
 use Rattle.chains.specs.Chains.{bears_event, row_at, row, chain_run}
 use Rattle.chains.specs.Refusals.{largest_scale, in_scale, first_outside, Bounded, sum_from, first_uneven, chain_fault}
@@ -50,17 +49,12 @@ passed_states n n' e = (choice_passes (one_to most_states n) n n' (fault StateCo
 -- so what refuses them is the same
 pub same_fault : (k k' n n' scale : ℕ) (letters : List ℕ) (numbers : List Count) (room : ℕ) → events_answer k ≡ Ok k' → states_answer n ≡ Ok n' → chain_fault k' n' scale letters numbers room ≡ chain_fault k n scale letters numbers room
 same_fault k k' n n' scale letters numbers room e s =
-    ap (λ x. chain_fault x n' scale letters numbers room) (passed_events k k' e) ∙ ap (λ x. chain_fault k x scale letters numbers room) (passed_states n n' s)
+    ap₂ (λ x y. chain_fault x y scale letters numbers room) (passed_events k k' e) (passed_states n n' s)
 
 module _ (k n scale : ℕ) (letters : List ℕ) (numbers : List Count) (room : ℕ) where
   -- what each test of the chain of refusals leaves
   pub record Admitted : Type 0 where
-    pub some : 1 ≤ n
-    pub few : n ≤ most_states
-    pub lettered : length letters ≡ n
     pub add_up : AddUp whole n (pos scale) (value counts numbers) (row n numbers)
-    pub size : room ≡ table_size n k
-    pub room_small : room ≤ table_size most_states most_events
     pub entries : AllEntries counts (chain_run n letters numbers k)
 
   abbrev sums : ℕ → ℤ
@@ -88,18 +82,9 @@ module _ (k n scale : ℕ) (letters : List ℕ) (numbers : List Count) (room : �
       let f = passed_test (eqb (length numbers) (n + n * n)) (fault NumberCount) _ e.1 in
       let g = found_none (first_outside scale numbers) ProbabilityRange _ f.1 in
       let h = found_none (first_uneven n (n + 1) scale numbers) RowSum _ g.1 in
-      let i = passed_test (eqb room (table_size n k)) (fault OutputLength) None h.1 in
-      let size : room ≡ table_size n k = eqb-true room (table_size n k) i.0 in
-      let events = one_to_parts most_events k a.0 in
-      let states = one_to_parts most_states n b.0 in
       let scaled = one_to_parts largest_scale scale c.0 in
       let bounded = in_scale_bounded scale numbers scaled.1 (first_is_first (in_scale scale) (zero_of counts) numbers None (sym g.0)) in
       record {
-        some = states.0;
-        few = states.1;
-        lettered = eqb-true (length letters) n d.0;
         add_up = rows_add_up h.0;
-        size = size;
-        room_small = let small = size_small n k states.1 events.1 in omega arith;
         entries = entries_stand n letters numbers k bounded;
       }

@@ -1,5 +1,5 @@
 -- What stands where in the run of a chain's table.
-use Rattle.std.proofs.Common.{◌≡◌, ℕ, ◌+◌, ◌-◌, ◌*◌, ◌/◌, ◌%◌, ◌<◌, ◌≤◌, cond, eqb, List, ◌++◌, length, get_or, sym, ap, ◌∙◌, mul-le-mul_right, mul_assoc, mul-le-mul, arith}
+use Rattle.std.proofs.Common.{◌≡◌, ℕ, ◌+◌, ◌-◌, ◌*◌, ◌/◌, ◌%◌, ◌<◌, ◌≤◌, cond, eqb, List, ◌++◌, length, get_or, sym, subst, ap, ◌∙◌, mul-le-mul_right, mul_assoc, mul-le-mul, arith}
 use Rattle.std.proofs.lemmas.Nat.{div-add-mod', div_below, mod_below}
 use Rattle.std.proofs.lemmas.List.{length-append, get_or_append_left, get_or-append-add}
 use Rattle.kinds.specs.declared.count.Count.{Count}
@@ -66,7 +66,7 @@ module _ (n : ℕ) (letters : List ℕ) (numbers : List Count) (k : ℕ) where
     abbrev rest : ℕ
     rest = (place - 2 * n) % (n * n)
 
-    pub step_by_place : number_at counts run place ≡ cond (eqb (get_or letters (rest / n) 0) (letter_of (event + 1))) (number_at counts numbers (n + rest)) (zero_of counts)
+    step_by_place : number_at counts run place ≡ cond (eqb (get_or letters (rest / n) 0) (letter_of (event + 1))) (number_at counts numbers (n + rest)) (zero_of counts)
     step_by_place =
         let whole : event * (n * n) + rest ≡ place - 2 * n = div-add-mod' (place - 2 * n) (n * n) in
         let part : rest / n * n + rest % n ≡ rest = div-add-mod' rest n in
@@ -76,3 +76,10 @@ module _ (n : ℕ) (letters : List ℕ) (numbers : List Count) (k : ℕ) where
         ap (number_at counts run) at
         ∙ step_stands event (rest / n) (rest % n) few (state_below n (place - 2 * n) some) (mod_below rest n some)
         ∙ ap (λ p. cond (eqb (get_or letters (rest / n) 0) (letter_of (event + 1))) (number_at counts numbers p) (zero_of counts)) from
+
+-- a number that is the step at a place of the table, by the count of states that the code reads
+pub step_stands_at : {n m : ℕ} (letters : List ℕ) (numbers : List Count) (k place : ℕ) (x : Count) → m ≡ n → 1 ≤ n → 2 * m ≤ place → place < table_size n k → x ≡ cond (eqb (get_or letters ((place - 2 * m) % (m * m) / m) 0) (letter_of ((place - 2 * m) / (m * m) + 1))) (number_at counts numbers (m + (place - 2 * m) % (m * m))) (zero_of counts) → x ≡ number_at counts (chain_run n letters numbers k) place
+step_stands_at {n} {m} letters numbers k place x is some past size e =
+    e
+    ∙ sym (step_by_place m letters numbers k place (omega arith) past (subst (λ c. place < table_size c k) (sym is) size))
+    ∙ ap (λ c. number_at counts (chain_run c letters numbers k) place) is

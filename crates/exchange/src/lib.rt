@@ -40,10 +40,11 @@ struct Exchange {
     output: BufWriter<Stdout>,
     line: LineBuffer,
     count: u64,
+    service: Service,
 }
 
 impl Exchange {
-    fn new(rt: &HostRuntime) -> io::Result<Exchange> {
+    fn new(rt: &HostRuntime, service: Service) -> io::Result<Exchange> {
         let input = BufReader::new(rt.alloc(), rt.stdin())?;
         let output = BufWriter::new(rt.alloc(), rt.stdout())?;
         Ok(Exchange {
@@ -51,10 +52,13 @@ impl Exchange {
             output,
             line: LineBuffer::new(rt.alloc()),
             count: 0,
+            service,
         })
     }
 
     /// Reads the next line, and answers whether there is one. All answers are out before more input is waited for.
+    // Its text is asked for apart, since it may be refused: an option in an option would be no plainer. The loop ends with
+    // the input, as the one over lines does.
     fn next_line(&mut self) -> io::Result<bool> {
         self.line.clear();
         self.count = self.count.saturating_add(1);
@@ -66,9 +70,10 @@ impl Exchange {
             if piece.is_empty() {
                 return Ok(self.line.has_begun());
             }
-            let taken = self.line.take(piece)?;
-            self.input.consume(taken.used);
-            if taken.ended {
+            let all = piece.len();
+            let end = self.line.take(piece)?;
+            self.input.consume(end.unwrap_or(all));
+            if end.is_some() {
                 return Ok(true);
             }
         }
@@ -85,82 +90,67 @@ impl Exchange {
     }
 }
 
-/// Answers the lines behind the one that opened a book, with a shelf, a run for numbers and scratch for weighing and for a chain's table that are lent for it.
-fn serve<K: Listed>(
-    exchange: &mut Exchange,
-    service: Service,
-    events: Events,
-    shelf: &mut [K],
-    run: &mut [K],
-    strip: &mut [K],
-    table: &mut [K],
-) -> io::Result<()> {
-    let mut book = Book::open(events, shelf);
+/// Answers the lines to come, each by what `answer` says to it.
+// A loop that waits for input has to have an end: no input has so many lines.
+fn serve<F: FnMut(Option<&[u8]>) -> Reply>(exchange: &mut Exchange, mut answer: F) -> io::Result<()>
+    requires { F.IsAlwaysCallable answer }
+{
     for _ in 0..u64::MAX {
         if !exchange.next_line()? {
             break;
         }
-        let line = exchange.line.text();
-        let reply = match service {
-            Service::Statements => answer_line(&mut book, run, strip, line),
-            Service::Requests => answer_request(&mut book, run, strip, table, line),
-        };
+        let reply = answer(exchange.line.text());
         exchange.answer(reply)?;
     }
     Ok(())
 }
 
-/// Opens a book and answers the lines behind it.
-fn open_and_serve(
+/// Opens a book over a shelf of numbers of a kind, and answers the lines behind the one that opened it. Beside the shelf
+/// there are a run for the numbers of a line, and scratch for weighing and for a chain's table.
+fn serve_book<K: Listed>(
     rt: &HostRuntime,
     exchange: &mut Exchange,
-    service: Service,
-    opened: Opened,
+    events: Events,
 ) -> io::Result<()> {
+    let mut shelf = vec![in rt.alloc(); K::zero(); SHELF_NUMBERS]?;
+    let mut run = vec![in rt.alloc(); K::zero(); MOST_NUMBERS]?;
+    let mut strip = vec![in rt.alloc(); K::zero(); STRIP_SIZE]?;
+    let mut table = vec![in rt.alloc(); K::zero(); MOST_TABLE]?;
+    let mut book = Book::open(events, shelf.as_mut_slice());
+    match exchange.service {
+        Service::Statements => serve(exchange, |line| {
+            answer_line(&mut book, run.as_mut_slice(), strip.as_mut_slice(), line)
+        }),
+        Service::Requests => serve(exchange, |line| {
+            answer_request(
+                &mut book,
+                run.as_mut_slice(),
+                strip.as_mut_slice(),
+                table.as_mut_slice(),
+                line,
+            )
+        }),
+    }
+}
+
+/// Answers that a book is open, and then the lines behind the one that opened it.
+fn open_and_serve(rt: &HostRuntime, exchange: &mut Exchange, opened: Opened) -> io::Result<()> {
     exchange.answer(Reply::Open)?;
     match opened.kind {
-        KindName::Count => {
-            let mut shelf = vec![in rt.alloc(); Count::zero(); SHELF_NUMBERS]?;
-            let mut run = vec![in rt.alloc(); Count::zero(); MOST_NUMBERS]?;
-            let mut strip = [Count::zero(); STRIP_SIZE];
-            let mut table = [Count::zero(); MOST_TABLE];
-            serve(
-                exchange,
-                service,
-                opened.events,
-                shelf.as_mut_slice(),
-                run.as_mut_slice(),
-                &mut strip,
-                &mut table,
-            )
-        }
-        KindName::Best => {
-            let mut shelf = vec![in rt.alloc(); Best::zero(); SHELF_NUMBERS]?;
-            let mut run = vec![in rt.alloc(); Best::zero(); MOST_NUMBERS]?;
-            let mut strip = [Best::zero(); STRIP_SIZE];
-            let mut table = [Best::zero(); MOST_TABLE];
-            serve(
-                exchange,
-                service,
-                opened.events,
-                shelf.as_mut_slice(),
-                run.as_mut_slice(),
-                &mut strip,
-                &mut table,
-            )
-        }
+        KindName::Count => serve_book::<Count>(rt, exchange, opened.events),
+        KindName::Best => serve_book::<Best>(rt, exchange, opened.events),
     }
 }
 
 /// Answers all lines of standard input, each before more input is waited for. No contract can say what is read or written.
 pub fn run(rt: &HostRuntime, service: Service) -> io::Result<()> {
-    let mut exchange = Exchange::new(rt)?;
+    let mut exchange = Exchange::new(rt, service)?;
     for _ in 0..u64::MAX {
         if !exchange.next_line()? {
             break;
         }
         match open_by(exchange.line.text()) {
-            Ok(opened) => open_and_serve(rt, &mut exchange, service, opened)?,
+            Ok(opened) => open_and_serve(rt, &mut exchange, opened)?,
             Err(fault) => exchange.answer(Reply::Refused(fault))?,
         }
     }

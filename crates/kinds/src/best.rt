@@ -3,14 +3,12 @@ ghost use Rattle.std.specs.Prelude.{◌≡◌};
 ghost use Rattle.kinds.specs.Numbers.{answer};
 ghost use Rattle.kinds.specs.Best.{bests};
 
-use crate::fault::{Fault, Refusal};
-use crate::kind::{Kind, LARGEST_FIT};
-
-/// A whole number is an entry from minus this to this; so is none.
-const LARGEST_ENTRY: u64 = 100_000;
+use crate::fault::Fault;
+use crate::kind::Kind;
+use crate::whole::{fitting, is_entry, sum};
 
 /// None or a whole number.
-#[derive(Clone, Copy)]
+#[derive(Clone, Copy, PartialEq, Eq, Debug)]
 pub struct Best(pub Option<i64>);
 
 impl Best {
@@ -18,10 +16,10 @@ impl Best {
     fn of(value: Option<i64>) -> Result<Best, Fault>
         ensures { result ≡ answer bests value }
     {
-        match value {
-            Some(z) if z.unsigned_abs() > LARGEST_FIT => Err(Fault::of(Refusal::OutOfRange)),
-            _ => Ok(Best(value)),
+        if let Some(z) = value {
+            fitting(z)?;
         }
+        Ok(Best(value))
     }
 }
 
@@ -46,27 +44,17 @@ impl Kind for Best {
 
     fn multiply(self, other: Best) -> Result<Best, Fault> {
         match (self.0, other.0) {
-            (Some(a), Some(b)) => match a.checked_add(b) {
-                Some(z) => Best::of(Some(z)),
-                None => Err(Fault::of(Refusal::OutOfRange)),
-            },
+            (Some(a), Some(b)) => Ok(Best(Some(sum(a, b)?))),
             _ => Ok(Best(None)),
         }
     }
 
     fn equal(self, other: Best) -> bool {
-        match (self.0, other.0) {
-            (Some(a), Some(b)) => a == b,
-            (None, None) => true,
-            _ => false,
-        }
+        self == other
     }
 
     fn is_entry(self) -> bool {
-        match self.0 {
-            Some(z) => z.unsigned_abs() <= LARGEST_ENTRY,
-            None => true,
-        }
+        self.0.is_none_or(is_entry)
     }
 
     fn cancels(self) -> bool {
@@ -79,41 +67,16 @@ impl Kind for Best {
 #[cfg(test)]
 mod tests {
     use super::*;
-    use std::test::Fail;
 
     #[test]
-    fn none_gives_way_in_a_sum(rt: HostRuntime) -> Result<(), Fail> {
-        match (
-            Best(None).add(Best(Some(7))),
-            Best(Some(-3)).add(Best(Some(7))),
-        ) {
-            (Ok(alone), Ok(both)) => {
-                assert_eq!(rt; alone.0, Some(7));
-                assert_eq!(rt; both.0, Some(-3));
-                Ok(())
-            }
-            _ => {
-                assert!(rt; false);
-                Ok(())
-            },
-        }
+    fn none_gives_way_in_a_sum(rt: HostRuntime) {
+        assert_eq!(rt; Best(None).add(Best(Some(7))), Ok(Best(Some(7))));
+        assert_eq!(rt; Best(Some(-3)).add(Best(Some(7))), Ok(Best(Some(-3))));
     }
 
     #[test]
-    fn none_makes_a_product_none(rt: HostRuntime) -> Result<(), Fail> {
-        match (
-            Best(None).multiply(Best(Some(7))),
-            Best(Some(-3)).multiply(Best(Some(7))),
-        ) {
-            (Ok(none), Ok(both)) => {
-                assert_eq!(rt; none.0, None);
-                assert_eq!(rt; both.0, Some(4));
-                Ok(())
-            }
-            _ => {
-                assert!(rt; false);
-                Ok(())
-            },
-        }
+    fn none_makes_a_product_none(rt: HostRuntime) {
+        assert_eq!(rt; Best(None).multiply(Best(Some(7))), Ok(Best(None)));
+        assert_eq!(rt; Best(Some(-3)).multiply(Best(Some(7))), Ok(Best(Some(4))));
     }
 }

@@ -1,30 +1,13 @@
 //! Count: the whole numbers, with the ordinary sum and product.
-ghost use Rattle.std.specs.Prelude.{◌≡◌};
-ghost use Rattle.kinds.specs.Numbers.{answer};
 ghost use Rattle.kinds.specs.Count.{counts};
 
-use crate::fault::{Fault, Refusal};
-use crate::kind::{Kind, LARGEST_FIT};
-
-/// A whole number is an entry from minus this to this.
-const LARGEST_ENTRY: u64 = 100_000;
+use crate::fault::Fault;
+use crate::kind::Kind;
+use crate::whole::{is_entry, product, sum};
 
 /// A whole number.
-#[derive(Clone, Copy)]
+#[derive(Clone, Copy, PartialEq, Eq, Debug)]
 pub struct Count(pub i64);
-
-impl Count {
-    /// The number of a whole number, or a refusal where that does not fit.
-    fn of(z: i64) -> Result<Count, Fault>
-        ensures { result ≡ answer counts z }
-    {
-        if z.unsigned_abs() <= LARGEST_FIT {
-            Ok(Count(z))
-        } else {
-            Err(Fault::of(Refusal::OutOfRange))
-        }
-    }
-}
 
 impl Kind for Count {
     ghost numbers = { counts };
@@ -38,25 +21,19 @@ impl Kind for Count {
     }
 
     fn add(self, other: Count) -> Result<Count, Fault> {
-        match self.0.checked_add(other.0) {
-            Some(z) => Count::of(z),
-            None => Err(Fault::of(Refusal::OutOfRange)),
-        }
+        sum(self.0, other.0).map(Count)
     }
 
     fn multiply(self, other: Count) -> Result<Count, Fault> {
-        match self.0.checked_mul(other.0) {
-            Some(z) => Count::of(z),
-            None => Err(Fault::of(Refusal::OutOfRange)),
-        }
+        product(self.0, other.0).map(Count)
     }
 
     fn equal(self, other: Count) -> bool {
-        self.0 == other.0
+        self == other
     }
 
     fn is_entry(self) -> bool {
-        self.0.unsigned_abs() <= LARGEST_ENTRY
+        is_entry(self.0)
     }
 
     fn cancels(self) -> bool {
@@ -69,33 +46,23 @@ impl Kind for Count {
 #[cfg(test)]
 mod tests {
     use super::*;
-    use std::test::Fail;
 
-    #[test]
-    fn the_largest_sum_fits(rt: HostRuntime) -> Result<(), Fail> {
-        match Count(-3_999_999_999_999_999_999).add(Count(-1)) {
-            Ok(sum) => {
-                assert_eq!(rt; sum.0, -4_000_000_000_000_000_000);
-                Ok(())
-            },
-            Err(fault) => {
-                assert_eq!(rt; fault.refusal.number(), 0);
-                Ok(())
-            },
-        }
+    // a sum, or the number of its refusal
+    fn added(a: i64, b: i64) -> Result<i64, u8> {
+        let sum = Count(a).add(Count(b));
+        sum.map(|sum| sum.0).map_err(|fault| fault.refusal.number())
     }
 
     #[test]
-    fn one_more_does_not_fit(rt: HostRuntime) -> Result<(), Fail> {
-        match Count(4_000_000_000_000_000_000).add(Count(1)) {
-            Ok(sum) => {
-                assert_eq!(rt; sum.0, 0);
-                Ok(())
-            },
-            Err(fault) => {
-                assert_eq!(rt; fault.refusal.number(), 19);
-                Ok(())
-            },
-        }
+    fn the_largest_sum_fits(rt: HostRuntime) {
+        assert_eq!(rt;
+            sum(-3_999_999_999_999_999_999, -1),
+            Ok(-4_000_000_000_000_000_000)
+        );
+    }
+
+    #[test]
+    fn one_more_does_not_fit(rt: HostRuntime) {
+        assert_eq!(rt; added(4_000_000_000_000_000_000, 1), Err(19));
     }
 }

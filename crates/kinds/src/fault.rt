@@ -3,72 +3,72 @@ ghost use Rattle.std.specs.Prelude.{◌≡◌};
 ghost use Rattle.kinds.specs.Faults.{number_of, fault, fault_at};
 
 /// Why something is refused: a case for each refusal that can be given. Its number is what a reader of the answers sees.
-#[derive(Clone, Copy)]
+#[derive(Clone, Copy, PartialEq, Eq, Debug)]
 pub enum Refusal {
     /// 1: the events are not 1 to 6.
-    EventCount,
+    EventCount = 1,
     /// 2: the states are not 1 to 8.
-    StateCount,
+    StateCount = 2,
     /// 3: a run has not the count of numbers that it should have.
-    NumberCount,
+    NumberCount = 3,
     /// 4: a number of a table is no entry.
-    NotAnEntry,
+    NotAnEntry = 4,
     /// 5: the book has as many tables as it may have.
-    TooManyTables,
+    TooManyTables = 5,
     /// 6: the shelf has too few numbers left.
-    ShelfFull,
+    ShelfFull = 6,
     /// 7: a call names a table that the book has not.
-    NoSuchTable,
+    NoSuchTable = 7,
     /// 8: the two tables of a call are one.
-    SameTable,
+    SameTable = 8,
     /// 9: the vectors of a sheet are not 1 to 16.
-    VectorCount,
+    VectorCount = 9,
     /// 10: a sheet has not the count of numbers that it should have.
-    SheetCount,
+    SheetCount = 10,
     /// 11: a number of a sheet is no entry.
-    NotASheetEntry,
+    NotASheetEntry = 11,
     /// 12: the scale of a sheet does not cancel.
-    ScaleDoesNotCancel,
+    ScaleDoesNotCancel = 12,
     /// 13: a vector of a sheet breaks the start rule.
-    StartRuleFails,
+    StartRuleFails = 13,
     /// 14: an event and a vector of a sheet break the step rule.
-    StepRuleFails,
+    StepRuleFails = 14,
     /// 15: a sheet breaks the end rule.
-    EndRuleFails,
+    EndRuleFails = 15,
     /// 16: the word is longer than 64.
-    WordLength,
+    WordLength = 16,
     /// 17: a byte of a word is no event of the book.
-    NotAnEvent,
+    NotAnEvent = 17,
     /// 18: the strip is not sixteen numbers.
-    StripLength,
+    StripLength = 18,
     /// 19: an exact result does not fit.
-    OutOfRange,
+    OutOfRange = 19,
     /// 20: a word weighs the same in both tables.
-    EqualWeights,
+    EqualWeights = 20,
     /// 21: the book keeps as many parts as it may.
-    TooManyParts,
+    TooManyParts = 21,
     /// 22: a chain's scale is below 1 or above 100,000.
-    ScaleRange,
+    ScaleRange = 22,
     /// 23: there is not one letter for each state, or a letter is no event of the book.
-    Letters,
+    Letters = 23,
     /// 24: a number of a chain is not 0 to the scale.
-    ProbabilityRange,
+    ProbabilityRange = 24,
     /// 25: the starts or a row of a chain do not add up to the scale.
-    RowSum,
+    RowSum = 25,
     /// 26: an output run has not the count of numbers that is written there.
-    OutputLength,
+    OutputLength = 26,
     /// 27: a call names a part that the book has not.
-    NoSuchPart,
+    NoSuchPart = 27,
     /// 28: a run for a word is not 64 bytes.
-    WordRunLength,
+    WordRunLength = 28,
     /// 29: a line lacks its line feed or is too long.
-    LineBounds,
+    LineBounds = 29,
     /// 30: a line's verb is not served here.
-    VerbNotServed,
+    VerbNotServed = 30,
     /// 31: a line has too few or too many fields.
-    FieldCount,
+    FieldCount = 31,
     /// 32: a field has another form than it should have.
-    FieldForm,
+    FieldForm = 32,
 }
 
 impl Refusal {
@@ -76,45 +76,13 @@ impl Refusal {
     pub fn number(self) -> u8
         ensures { result ≡ number_of self }
     {
-        match self {
-            Refusal::EventCount => 1,
-            Refusal::StateCount => 2,
-            Refusal::NumberCount => 3,
-            Refusal::NotAnEntry => 4,
-            Refusal::TooManyTables => 5,
-            Refusal::ShelfFull => 6,
-            Refusal::NoSuchTable => 7,
-            Refusal::SameTable => 8,
-            Refusal::VectorCount => 9,
-            Refusal::SheetCount => 10,
-            Refusal::NotASheetEntry => 11,
-            Refusal::ScaleDoesNotCancel => 12,
-            Refusal::StartRuleFails => 13,
-            Refusal::StepRuleFails => 14,
-            Refusal::EndRuleFails => 15,
-            Refusal::WordLength => 16,
-            Refusal::NotAnEvent => 17,
-            Refusal::StripLength => 18,
-            Refusal::OutOfRange => 19,
-            Refusal::EqualWeights => 20,
-            Refusal::TooManyParts => 21,
-            Refusal::ScaleRange => 22,
-            Refusal::Letters => 23,
-            Refusal::ProbabilityRange => 24,
-            Refusal::RowSum => 25,
-            Refusal::OutputLength => 26,
-            Refusal::NoSuchPart => 27,
-            Refusal::WordRunLength => 28,
-            Refusal::LineBounds => 29,
-            Refusal::VerbNotServed => 30,
-            Refusal::FieldCount => 31,
-            Refusal::FieldForm => 32,
-        }
+        self as u8
     }
 }
 
 /// A refusal and the place that it names, or 0 where it names none.
-#[derive(Clone, Copy)]
+// No `Option`: the definitions of faults and the answers to lines have the place as a number, and 0 where none is named.
+#[derive(Clone, Copy, PartialEq, Eq, Debug)]
 pub struct Fault {
     pub refusal: Refusal,
     pub place: usize,

@@ -5,9 +5,6 @@ ghost use Rattle.kinds.specs.Numbers.{Numbers, SumsOfEntryProductsFit, answer, i
 
 use crate::fault::Fault;
 
-/// A whole number fits from minus this to this, in every kind of whole numbers.
-pub(crate) const LARGEST_FIT: u64 = 4_000_000_000_000_000_000;
-
 /// A kind of number: stored numbers that stand for exact values of a semiring.
 /// A number of the type may stand for nothing; of such a number only `is_entry` promises something.
 pub trait Kind: Copy {

@@ -5,3 +5,4 @@ pub mod best;
 pub mod count;
 pub mod fault;
 pub mod kind;
+mod whole;

@@ -1,12 +1,12 @@
 -- One line more at the end keeps what holds of the lines, and how many numbers they take.
 use Rattle.std.proofs.Common.{◌≡◌, ℕ, zero, suc, ◌+◌, ◌-◌, ◌*◌, ◌<◌, ◌≤◌, true, List, [], ◌∷◌, ◌++◌, length, get_or, take, drop, set, sym, refl, ap, ◌∙◌, subst, ⊎_elim, add-one, arith}
-use Rattle.std.proofs.lemmas.List.{get_or_append_left, get_or_push, get_or-take, length_push, length-set, length-take-le, take_all, take-append-drop, take_at, take-append-le, take_more, take_more_set}
+use Rattle.std.proofs.lemmas.List.{get_or_append_left, get_or_push, length_push, length-set, length-take-le, take_all, take-append-drop, take_at, take-append-le, take_more, take_more_set}
 use Rattle.std.proofs.lemmas.Bool.{cases_lt}
 use Rattle.tables.specs.Shape.{most_events, most_states, one_to, table_size}
 use Rattle.tables.proofs.Limits.{one_to_from, one_to_parts}
 use Rattle.tables.proofs.Sizes.{size_small}
 use Rattle.ledger.specs.declared.line.Line.{Line}
-use Rattle.ledger.specs.Lines.{Has, Named, Sized, Packed, blank, class_of, line_of, most_tables, used}
+use Rattle.ledger.specs.Lines.{Has, Named, Sized, Packed, Sound, blank, class_of, line_of, most_tables, used}
 use Rattle.ledger.specs.Model.{new_line}
 
 -- ---- how many numbers the lines take
@@ -105,12 +105,6 @@ module _ (ls : List Line) (l : Line) where
       last : (line_of (ls ++ (l ∷ [])) (length ls + 1)).place ≡ 1 + used k (take (length ls + 1 - 1) (ls ++ (l ∷ [])))
       last = ap (λ x. x.place) line_last ∙ behind ∙ ap (λ x. 1 + used k x) (sym (take_at ls (l ∷ []) (length ls + 1 - 1) (omega arith)))
 
--- what a ledger keeps of its lines
-pub record Sound (k : ℕ) (ls : List Line) : Type 0 where
-  pub named : Named ls
-  pub sized : Sized ls
-  pub packed : Packed k ls
-
 -- one table more keeps it
 pub sound_push : (k : ℕ) (ls : List Line) (n : ℕ) → 1 ≤ n → n ≤ most_states → Sound k ls → Sound k (ls ++ (new_line k ls n ∷ []))
 sound_push k ls n some few old =
@@ -137,26 +131,3 @@ module _ (k n : ℕ) (all : List Line) (room : n < length all) (states count : �
 
   pub held_sound : 1 ≤ states → states ≤ most_states → Sound k (take n all) → Sound k (take (n + 1) after)
   held_sound some few old = subst (Sound k) (sym held) (sound_push k (take n all) states some few old)
-
--- what is known of the last of the n lines that are held
-pub record Last (k : ℕ) (front : List Line) (l : Line) : Type 0 where
-  pub some : 1 ≤ l.states
-  pub few : l.states ≤ most_states
-  pub begins : 1 ≤ l.place
-  pub ends : (l.place - 1) + table_size l.states k ≡ used k front
-  pub small : used k front ≤ table_size most_states most_events * most_tables
-
-pub last_line : (k n : ℕ) (all : List Line) → k ≤ most_events → 1 ≤ n → n ≤ most_tables → length all ≡ most_tables → Sized (take n all) → Packed k (take n all) → Last k (take n all) (get_or all (n - 1) blank)
-last_line k n all few some fits full sized packed =
-    let size : length (take n all) ≡ n = length-take-le n all (omega arith) in
-    let has : Has (take n all) n = (some, omega arith) in
-    let short : length (take n all) ≤ most_tables = omega arith in
-    let begins = packed n has in
-    subst (Last k (take n all)) (get_or-take n all (n - 1) blank (omega arith))
-    (record {
-      some = (sized n has).0;
-      few = (sized n has).1;
-      begins = omega arith;
-      ends = sym (used_by_last k (take n all) packed n size some);
-      small = used_small k (take n all) sized few short;
-    })

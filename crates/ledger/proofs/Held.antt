@@ -1,22 +1,27 @@
 -- What the fields of a ledger hold, and what keeping a word with two of its tables answers and leaves.
-use Rattle.std.proofs.Common.{◌≡◌, ℕ, ◌+◌, ◌<◌, ◌≤◌, List, map, length, take, set, Some, None, Ok, Err, Result, sym, ap, ◌∙◌, subst, arith}
+use Rattle.std.proofs.Common.{◌≡◌, ℕ, ◌+◌, ◌*◌, ◌<◌, ◌≤◌, List, map, length, take, set, Some, None, Ok, Err, Result, sym, ap, ap₂, ◌∙◌, subst, arith}
 use Rattle.std.proofs.lemmas.List.{length-take-le}
 use Rattle.std.proofs.lemmas.Bool.{le-ltb, lt-ltb}
 use Rattle.kinds.specs.declared.fault.Fault.{Fault}
 use Rattle.kinds.specs.declared.fault.Refusal.TheVariants.{TooManyParts}
 use Rattle.kinds.specs.Faults.{fault, or_refused, unless}
-use Rattle.kinds.proofs.Refusing.{answer_passes, refusal_refuses, test_passed}
+use Rattle.kinds.proofs.Refusing.{answer_passes, test_passed}
 use Rattle.tables.specs.Words.{Spelled, events_of, longest_word, unless_word}
 use Rattle.tables.proofs.Admitted.{spelled, word_admitted}
 use Rattle.ledger.specs.declared.ledger.Ledger.{Ledger}
 use Rattle.ledger.specs.declared.ledger.Pair.{Pair}
+use Rattle.ledger.specs.declared.ledger.Standing.{Standing}
 use Rattle.ledger.specs.declared.line.Line.{Line}
 use Rattle.ledger.specs.declared.part.Part.{Part}
 use Rattle.ledger.specs.Keep.{keep_fault}
+use Rattle.ledger.specs.Lines.{most_tables, used}
+use Rattle.tables.specs.Shape.{most_events, most_states, table_size}
+use Rattle.tables.proofs.Limits.{one_to_parts}
+use Rattle.ledger.proofs.Appending.{used_by_last, used_small}
 use Rattle.ledger.specs.Parts.{Kept, Parted, most_parts, unless_full, with_part}
-use Rattle.ledger.specs.Standing.{Pairs, TwoTables}
+use Rattle.ledger.specs.Standing.{Pairs, StandsAt, TwoTables}
 use Rattle.ledger.specs.Stored.{meaning, meanings}
-use Rattle.ledger.proofs.Keeping.{KeepSays, keep_passes, keep_refuses, keep_room, kept_refused, meanings_count, pair_two, parted_push, records_held, records_whole}
+use Rattle.ledger.proofs.Keeping.{KeepSays, keep_passes, keep_refuses, keep_room, meanings_count, pair_two, parted_push, records_held, records_whole}
 
 module _ (l : Ledger) where
   -- the lines of its tables, and its parts
@@ -36,6 +41,14 @@ module _ (l : Ledger) where
   pub parts_held : length parts_in ≡ l.kept
   parts_held = meanings_count l.kept l.parts.all parts_fit
 
+  -- the used numbers end where the last table ends
+  pub last_ends : (s : Standing) → StandsAt l.events.count lines_in l.tables s → (s.at + s.size ≡ used l.events.count lines_in) × (s.at + s.size ≤ table_size most_states most_events * most_tables)
+  last_ends s stands =
+      let ends : s.at + s.size ≡ used l.events.count lines_in = ap₂ ◌+◌ stands.at stands.size ∙ sym (used_by_last l.events.count lines_in l.sound.packed l.tables lines_held (one_to_parts (length lines_in) l.tables stands.there).0) in
+      let few = l.few in
+      let small = used_small l.events.count lines_in l.sound.sized l.events.few (let n = lines_held in omega arith) in
+      (ends, omega arith)
+
 -- a word, by its bytes, and two tables that stand in the ledger
 module _ (l : Ledger) (a b : ℕ) (word : List ℕ) (s : Pair) (stand : Pairs l.events.count (lines_in l) a b (Ok s)) where
   abbrev k : ℕ
@@ -47,12 +60,6 @@ module _ (l : Ledger) (a b : ℕ) (word : List ℕ) (s : Pair) (stand : Pairs l.
   -- what keeping it says
   abbrev pub Says : Result ℕ Fault → List Kept → Type 0
   Says = KeepSays k (lines_in l) (parts_in l) a b word
-
-  -- the word is refused
-  pub word_is_refused : (f : Fault) → Err f ≡ or_refused (unless_word k word None) (tt {0}) → Says (Err f) (parts_in l)
-  word_is_refused f e =
-      keep_refuses k (lines_in l) (parts_in l) a b word f
-      (kept_refused k l.tables (lines_in l) (parts_in l) a b word (lines_held l) two f (refusal_refuses (unless_word k word None) (tt {0}) f e))
 
   module _ (passed : Ok (tt {0}) ≡ or_refused (unless_word k word None) (tt {0})) where
     none : unless_word k word None ≡ None

@@ -1,15 +1,15 @@
 -- One part more, and what a ledger knows of its parts.
-use Rattle.std.proofs.Common.{◌≡◌, ℕ, ◌+◌, ◌-◌, ◌<◌, ◌≤◌, Bool, true, false, not, eqb, leb, List, [], ◌∷◌, ◌++◌, map, length, get_or, take, set, Some, None, Ok, Err, Option, Result, sym, refl, ap, ◌∙◌, ⊎_elim, arith, length-set}
+use Rattle.std.proofs.Common.{◌≡◌, ℕ, ◌+◌, ◌-◌, ◌<◌, ◌≤◌, Bool, true, false, not, eqb, leb, List, [], ◌∷◌, ◌++◌, map, length, take, set, Some, None, Ok, Err, Option, Result, sym, refl, ap, ◌∙◌, ⊎_elim, arith, length-set}
 use lib.ListN.{length-map}
-use Rattle.std.proofs.lemmas.List.{get_or_append_left, get_or-map, get_or_push, get_or-take, length_push, length-take-le, take-map, take_more_set}
-use Rattle.std.proofs.lemmas.Bool.{and_from, and_parts, cases_Bool, cases_lt, eq-eqb, eqb-false, le-leb, leb-true, ne_eqb, not-true}
+use Rattle.std.proofs.lemmas.List.{get_or_append_left, get_or_push, length_push, length-take-le, take-map, take_more_set}
+use Rattle.std.proofs.lemmas.Bool.{and_from, and_parts, cases_lt, eq-eqb, eqb-false, le-leb, leb-true, ne_eqb, not-true}
 use Rattle.kinds.specs.declared.fault.Fault.{Fault}
 use Rattle.kinds.specs.declared.fault.Refusal.TheVariants.{NoSuchTable, SameTable, NoSuchPart, WordRunLength}
 use Rattle.kinds.specs.Faults.{fault, fault_at, or_kept, or_refused, unless}
 use Rattle.kinds.proofs.Refusing.{passed_test, test_passed}
 use Rattle.tables.specs.Shape.{one_to}
 use Rattle.tables.specs.Words.{event_of, events_of, AllEvents, longest_word, unless_word}
-use Rattle.tables.proofs.Admitted.{word_passes, word_refused}
+use Rattle.tables.proofs.Admitted.{word_passes}
 use Rattle.tables.proofs.Limits.{one_to_from, one_to_parts}
 use Rattle.ledger.specs.declared.ledger.Pair.{Pair}
 use Rattle.ledger.specs.declared.line.Line.{Line}
@@ -90,9 +90,6 @@ events_spelled k (b ∷ word) all = and_from (one_to k (event_of b)) _ all.0 (ev
 
 module _ (k n : ℕ) (ls : List Line) (ps : List Kept) (a b : ℕ) (word : List ℕ) (count : length ls ≡ n) (two : TwoTables ls a b) where
   -- why a word with two tables is not kept
-  pub kept_refused : (f : Fault) → unless_word k word None ≡ Some f → keep_fault k ls ps a b word ≡ Some f
-  kept_refused f e = two_pass ls a b two _ ∙ word_refused k word (unless_full ps None) f e
-
   pub keep_room : unless_word k word None ≡ None → keep_fault k ls ps a b word ≡ unless_full ps None
   keep_room e = two_pass ls a b two _ ∙ word_passes k word (unless_full ps None) e
 
@@ -147,28 +144,12 @@ module _ (n : ℕ) (all after : List Part) (new : Kept) (room : n < length all) 
 pub meanings_count : (n : ℕ) (all : List Part) → n ≤ length all → length (meanings n all) ≡ n
 meanings_count n all fits = length-map (take n all) meaning ∙ length-take-le n all fits
 
--- what a part that is held means
-pub meaning_held : (n : ℕ) (all : List Part) (p : ℕ) (d : Part) → 1 ≤ p → p ≤ n → n ≤ length all → part_of (meanings n all) p ≡ meaning (get_or all (p - 1) d)
-meaning_held n all p d low high fits =
-    let inside : p - 1 < length (take n all) = let l = length-take-le n all fits in omega arith in
-    let under : p - 1 < n = omega arith in
-    get_or-map meaning (take n all) (p - 1) d no_part inside ∙ ap meaning (get_or-take n all (p - 1) d under)
-
 -- ---- copying the word of a part
 pub record WordSays (ps : List Kept) (p : ℕ) (run : List ℕ) (r : Result ℕ Fault) (after : List ℕ) : Type 0 where
   pub answer : r ≡ word_answer ps p run
   pub copied : after ≡ word_run ps p run
 
 module _ (ps : List Kept) (p : ℕ) (run : List ℕ) where
-  says_refused : (f : Fault) → word_fault ps p (length run) ≡ Some f → WordSays ps p run (Err f) run
-  says_refused f e = record { answer = sym (ap (λ o. or_refused o (length (part_of ps p).word)) e); copied = sym (ap (λ o. or_kept o run (spelled (part_of ps p).word)) e) }
-
-  pub no_such_part : one_to (length ps) p ≡ false → WordSays ps p run (Err (fault NoSuchPart)) run
-  no_such_part e = says_refused (fault NoSuchPart) (ap (λ b. unless b (fault NoSuchPart) (unless (eqb (length run) longest_word) (fault WordRunLength) None)) e)
-
-  pub other_length : one_to (length ps) p ≡ true → (length run ≡ longest_word → ⊥) → WordSays ps p run (Err (fault WordRunLength)) run
-  other_length e h = says_refused (fault WordRunLength) (test_passed _ (fault NoSuchPart) _ e ∙ ap (λ b. unless b (fault WordRunLength) None) (ne_eqb (length run) longest_word h))
-
   pub word_copied : one_to (length ps) p ≡ true → length run ≡ longest_word → (n : ℕ) (after : List ℕ) → n ≡ length (part_of ps p).word → after ≡ spelled (part_of ps p).word → WordSays ps p run (Ok n) after
   word_copied e h n after is copied =
       let none : word_fault ps p (length run) ≡ None = test_passed _ (fault NoSuchPart) _ e ∙ test_passed _ (fault WordRunLength) None (eq-eqb (length run) longest_word h) in
@@ -176,7 +157,3 @@ module _ (ps : List Kept) (p : ℕ) (run : List ℕ) where
         answer = ap Ok is ∙ sym (ap (λ o. or_refused o (length (part_of ps p).word)) none);
         copied = copied ∙ sym (ap (λ o. or_kept o run (spelled (part_of ps p).word)) none);
       }
-
--- not from 1 to a limit
-pub not_one_to : (most n : ℕ) → (1 ≤ n → n ≤ most → ⊥) → one_to most n ≡ false
-not_one_to most n h = ⊎_elim (λ e. let p = one_to_parts most n e in absurd (h p.0 p.1)) (λ e. e) (cases_Bool (one_to most n))

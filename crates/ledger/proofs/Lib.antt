@@ -1,7 +1,5 @@
 pub mod Appending
 pub mod Placing
-pub mod Standings
-pub mod Relabelling
 pub mod Merging
 pub mod Spelling
 pub mod Keeping

@@ -1,14 +1,16 @@
 -- Merged classes are named by their smallest table, and the tables stay where they lie.
-use Rattle.std.proofs.Common.{◌≡◌, ℕ, ◌+◌, ◌-◌, ◌<◌, ◌≤◌, min, max, Bool, true, false, cond, eqb, leb, ◌⊎◌, List, [], ◌∷◌, ◌++◌, map, length, take, drop, sym, refl, ap, ◌∙◌, ap₂, inl, inr, ⊎_elim, arith, length-append, length-drop, length-take}
+use Rattle.std.proofs.Common.{◌≡◌, ℕ, ◌+◌, ◌-◌, ◌<◌, ◌≤◌, min, max, Bool, true, false, cond, eqb, leb, ◌⊎◌, List, [], ◌∷◌, ◌++◌, map, length, take, drop, sym, refl, ap, ◌∙◌, subst, ap₂, Some, inl, inr, ⊎_elim, arith, length-append, length-drop, length-take}
 use lib.ListN.{length-map}
 use Rattle.std.proofs.lemmas.List.{get_or-map, take_at, take-map}
 use Rattle.std.proofs.lemmas.Bool.{and_parts, cases_eq, cases_lt, cond-false, cond-true, eq-eqb, leb-true, ne_eqb}
 use Rattle.tables.specs.Shape.{one_to, table_size}
 use Rattle.ledger.specs.declared.line.Line.{Line}
 use Rattle.ledger.specs.Classes.{merged, relabelled, with_class}
-use Rattle.ledger.specs.Lines.{Has, Named, Packed, Sized, blank, class_of, line_of, used}
-use Rattle.ledger.proofs.Appending.{Sound}
-use Rattle.tables.proofs.Limits.{one_to_from}
+use Rattle.ledger.specs.Lines.{Has, Named, Packed, Sized, Sound, blank, class_of, line_of, most_tables, used}
+use Rattle.tables.proofs.Limits.{one_to_from, one_to_parts}
+use Rattle.ledger.specs.declared.ledger.Ledger.{Ledger}
+use Rattle.ledger.specs.Standing.{LineFound}
+use Rattle.ledger.proofs.Held.{lines_held, lines_in}
 
 -- ---- one line
 -- the name of a class after a move
@@ -131,18 +133,20 @@ sound_merged k ls a b ha hb sound =
       packed = packed_still k (max (class_of ls a) (class_of ls b)) (min (class_of ls a) (class_of ls b)) ls sound.packed;
     }
 
--- ---- a table of lines, of which the first n are held, after a merge of those
-module _ (n x y : ℕ) (all after : List Line) (fits : n ≤ length all) (e : after ≡ map (relabelled x y) (take n all) ++ drop n all) where
-  pub held_merged : (a b : ℕ) → x ≡ max (class_of (take n all) a) (class_of (take n all) b) → y ≡ min (class_of (take n all) a) (class_of (take n all) b) → take n after ≡ merged a b (take n all)
-  held_merged a b ex ey =
-      let size : length (map (relabelled x y) (take n all)) ≡ n = simp (length-map, length-take) (omega arith) in
-      ap (take n) e
-      ∙ take_at (map (relabelled x y) (take n all)) (drop n all) n size
-      ∙ ap (λ (k : ℕ). map (relabelled k y) (take n all)) ex
-      ∙ ap (λ (k : ℕ). map (relabelled (max (class_of (take n all) a) (class_of (take n all) b)) k) (take n all)) ey
+-- ---- the lines of a ledger, of which the classes of two tables are merged
+module _ (l : Ledger) (a b : ℕ) (first second : Line) (one : LineFound (lines_in l) a (Some first)) (two : LineFound (lines_in l) b (Some second)) (after : List Line) (is : after ≡ map (relabelled (max first.class second.class) (min first.class second.class)) (lines_in l) ++ drop l.tables l.lines.all) where
+  here : take l.tables after ≡ merged a b (lines_in l)
+  here =
+      let size : length (map (relabelled (max first.class second.class) (min first.class second.class)) (lines_in l)) ≡ l.tables = length-map (lines_in l) _ ∙ lines_held l in
+      ap (take l.tables) is
+      ∙ take_at _ (drop l.tables l.lines.all) l.tables size
+      ∙ ap₂ (λ (x : Line) (y : Line). map (relabelled (max x.class y.class) (min x.class y.class)) (lines_in l)) one.1 two.1
 
-  pub held_as_many : length after ≡ length all
-  held_as_many = ap length e ∙ simp (length-append, length-map, length-take, length-drop) (omega arith)
+  pub merged_sound : Sound l.events.count (take l.tables after)
+  merged_sound = subst (Sound l.events.count) (sym here) (sound_merged l.events.count (lines_in l) a b (one_to_parts _ a one.0) (one_to_parts _ b two.0) l.sound)
+
+  pub merged_whole : length after ≡ most_tables
+  merged_whole = let few = l.few in let full = l.full in ap length is ∙ simp (length-append, length-map, length-take, length-drop) (omega arith)
 
 -- ---- what a merge leaves as it was
 pub merged_as_many : (a b : ℕ) (ls : List Line) → length (merged a b ls) ≡ length ls

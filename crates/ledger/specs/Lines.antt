@@ -39,3 +39,9 @@ Sized ls = (i : ℕ) → Has ls i → (1 ≤ (line_of ls i).states) × ((line_of
 -- each table begins right behind the ones before it; places count from 1
 abbrev pub Packed : ℕ → List Line → Type 0
 Packed k ls = (i : ℕ) → Has ls i → (line_of ls i).place ≡ 1 + used k (take (i - 1) ls)
+
+-- the lines of a book with k events: the classes are named, the tables have their states and lie behind one another
+pub record Sound (k : ℕ) (ls : List Line) : Type 0 where
+  pub named : Named ls
+  pub sized : Sized ls
+  pub packed : Packed k ls

@@ -1,5 +1,5 @@
 -- The parts of a ledger: words that are kept because they weigh differently in two tables.
-use Rattle.std.specs.Prelude.{◌≡◌, ℕ, ◌-◌, ◌≤◌, Bool, true, not, ◌&&◌, List, [], ◌∷◌, ◌++◌, map, length, replicate, None, Option, Result, ◌==◌, nat_le, nat_lt, slice_index_or}
+use Rattle.std.specs.Prelude.{◌≡◌, ℕ, ◌-◌, ◌≤◌, Bool, true, false, not, ◌&&◌, List, [], ◌∷◌, ◌++◌, map, length, replicate, Some, None, Option, Result, ◌==◌, nat_le, nat_lt, slice_index_or}
 use Rattle.kinds.specs.declared.fault.Fault.{Fault}
 use Rattle.kinds.specs.declared.fault.Refusal.TheVariants.{TooManyParts, NoSuchPart, WordRunLength}
 use Rattle.kinds.specs.Faults.{fault, unless, or_refused, or_kept}
@@ -27,6 +27,11 @@ HasPart ps p = (1 ≤ p) × (p ≤ length ps)
 -- part p
 abbrev pub part_of : List Kept → ℕ → Kept
 part_of ps p = slice_index_or ps (p - 1) no_part
+
+-- r is part p, if there is one
+abbrev pub PartFound : List Kept → ℕ → Option Kept → Type 0
+PartFound ps p (Some q) = (one_to (length ps) p ≡ true) × (q ≡ part_of ps p)
+PartFound ps p None = one_to (length ps) p ≡ false
 
 -- whether each event of a word is 1 to k
 abbrev pub all_events : ℕ → List ℕ → Bool

@@ -13,6 +13,11 @@ use Rattle.ledger.specs.Lines.{line_of}
 abbrev pub unless_table : List Line → ℕ → ℕ → Option Fault → Option Fault
 unless_table ls i p rest = unless (one_to (length ls) i) (fault_at NoSuchTable p) rest
 
+-- r is the line of table i, if there is one
+abbrev pub LineFound : List Line → ℕ → Option Line → Type 0
+LineFound ls i (Some l) = (one_to (length ls) i ≡ true) × (l ≡ line_of ls i)
+LineFound ls i None = one_to (length ls) i ≡ false
+
 -- two different tables of the book
 pub record TwoTables (ls : List Line) (a b : ℕ) : Type 0 where
   pub first : one_to (length ls) a ≡ true

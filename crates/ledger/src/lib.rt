@@ -2,8 +2,12 @@
 #![tactic(auto)]
 
 pub mod asking;
+mod entering;
+mod joining;
 pub mod ledger;
 pub mod line;
 pub mod lines;
 pub mod part;
+mod parting;
 pub mod parts;
+mod standing;

@@ -1,9 +1,6 @@
 //! One line of the ledger.
-ghost use Rattle.std.specs.Prelude.{◌≡◌, ◌≤◌};
-ghost use Rattle.tables.specs.Shape.{most_events, most_states, table_size};
-ghost use Rattle.ledger.specs.Classes.{with_class};
-
-use tables::shape::{Events, States, table_size};
+ghost use Rattle.std.specs.Prelude.{◌≡◌};
+ghost use Rattle.ledger.specs.Classes.{relabelled, with_class};
 
 /// What the ledger has of a table: its states, the place of its first number on the shelf, counted from 1, and its class,
 /// named by the smallest table in it.
@@ -31,16 +28,12 @@ impl Line {
         self.class = to;
     }
 
-    /// How many numbers the table has.
-    pub(crate) fn size(self, events: Events) -> usize
-        requires some { 1 ≤ self.states }
-        requires few { self.states ≤ most_states }
-        ensures is { result ≡ table_size self.states events.count }
-        ensures small { result ≤ table_size most_states most_events }
+    /// Moves the table to another class, if it is in this one.
+    pub(crate) fn relabel_from(&mut self, from: usize, to: usize)
+        ensures { self.new ≡ relabelled from to self.old }
     {
-        match States::new(self.states) {
-            Ok(states) => table_size(states, events),
-            Err(_) => 0,
+        if self.class == from {
+            self.relabel(to);
         }
     }
 }

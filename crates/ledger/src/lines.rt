@@ -9,6 +9,7 @@ use crate::line::Line;
 pub const MOST_TABLES: usize = 32;
 
 /// A line for each table that a book may have; those of tables that it has not mean nothing.
+// A plain table beside that of the parts, which lends one line to the line's own method: a rule of the project.
 #[derive(Clone, Copy)]
 pub struct Lines {
     pub all: [Line; MOST_TABLES],
@@ -28,10 +29,8 @@ impl Lines {
         requires { count ≤ most_tables }
         ensures { self.new.all ≡ map (relabelled from to) (take count self.old.all) ++ drop count self.old.all }
     {
-        for i in 0..count {
-            if self.all[i].class == from {
-                self.all[i].relabel(to);
-            }
+        for line in self.all[..count].iter_mut() {
+            line.relabel_from(from, to);
         }
     }
 }

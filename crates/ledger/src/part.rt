@@ -9,6 +9,7 @@ use tables::words::{LONGEST_WORD, event_of, letter_of};
 
 /// What the ledger keeps of a part: two tables, and a word that weighs differently in them, as its events in turn,
 /// of which the first `size` count.
+// An array and a count, and no `Vec`: a record is copied with the ledger, and takes no memory.
 #[derive(Clone, Copy)]
 pub struct Part {
     first: usize,
@@ -26,8 +27,10 @@ fn stored(word: &[u8]) -> [u8; LONGEST_WORD]
     ensures { result ≡ padded (events_of word.now) }
 {
     let mut events = [0; LONGEST_WORD];
-    for (i, byte) in word.iter().enumerate() {
-        events[i] = event_of(*byte) as u8;
+    let spelled = &mut events[..word.len()];
+    spelled.copy_from_slice(word);
+    for event in spelled.iter_mut() {
+        *event = event_of(*event) as u8;
     }
     events
 }
@@ -80,13 +83,12 @@ impl Part {
         ensures length { result ≡ length (take self.now.size self.now.events) }
         ensures run { run.new ≡ spelled (take self.now.size self.now.events) }
     {
-        for i in 0..LONGEST_WORD {
-            run[i] = if i < self.size {
-                letter_of(self.events[i])
-            } else {
-                0
-            };
+        let (letters, rest) = run.split_at_mut(self.size);
+        letters.copy_from_slice(&self.events[..self.size]);
+        for letter in letters.iter_mut() {
+            *letter = letter_of(*letter);
         }
+        rest.fill(0);
         self.size
     }
 }

@@ -10,6 +10,7 @@ use crate::part::Part;
 pub const MOST_PARTS: usize = 32;
 
 /// A record for each part that a book may keep; those of parts that it has not mean nothing.
+// A plain table, which lends one record to the record's own method, as the lines' does.
 #[derive(Clone, Copy)]
 pub struct Parts {
     pub all: [Part; MOST_PARTS],

@@ -2,20 +2,24 @@
 use Rattle.std.specs.Prelude.{ℕ, cond, List, [], ◌∷◌, Some, None, Ok, Err, codes, Option, Result}
 use Rattle.std.specs.Str.{bytes_eq}
 use Rattle.kinds.specs.declared.fault.Fault.{Fault}
-use Rattle.kinds.specs.declared.fault.Refusal.TheVariants.{LineBounds, VerbNotServed, FieldCount, FieldForm}
-use Rattle.kinds.specs.Faults.{fault, fault_at, then}
+use Rattle.kinds.specs.declared.fault.Refusal.TheVariants.{LineBounds, VerbNotServed, FieldCount}
+use Rattle.kinds.specs.Faults.{fault, then}
 use Rattle.lines.specs.declared.openings.KindName.{KindName}
 use Rattle.lines.specs.declared.openings.KindName.TheVariants.{Count, Best}
 use Rattle.lines.specs.declared.openings.Opening.{Opening}
 use Rattle.lines.specs.declared.verbs.Verb.{Verb}
 use Rattle.lines.specs.declared.verbs.Verb.TheVariants.{Book, Table, Join, Weigh}
 use Rattle.text.specs.Split.{split}
-use Rattle.text.specs.Numerals.{plain_at}
+use Rattle.text.specs.Numerals.{or_other_form, plain_at}
 use Rattle.lines.specs.Verbs.{verb_of, behind_verb}
+
+-- the kind that a field names
+abbrev pub kind_named : List ℕ → Option KindName
+kind_named s = cond (bytes_eq s (codes "count")) (Some Count) (cond (bytes_eq s (codes "best")) (Some Best) None)
 
 -- the kind that the field at a place names
 abbrev pub kind_at : List ℕ → ℕ → Result KindName Fault
-kind_at s p = cond (bytes_eq s (codes "count")) (Ok Count) (cond (bytes_eq s (codes "best")) (Ok Best) (Err (fault_at FieldForm p)))
+kind_at s p = or_other_form (kind_named s) p
 
 -- book,KIND,EVENTS: the fields behind the verb are counted before their forms are judged
 abbrev pub book_of : List (List ℕ) → Result Opening Fault

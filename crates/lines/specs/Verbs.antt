@@ -12,10 +12,14 @@ verb_named s =
     (cond (bytes_eq s (codes "join")) (Some Join)
     (cond (bytes_eq s (codes "weigh")) (Some Weigh) None)))
 
+-- what the first field names
+abbrev pub named_first : {V : Type 0} → (List ℕ → Option V) → List (List ℕ) → Option V
+named_first named [] = None
+named_first named (v ∷ fs) = named v
+
 -- a line's verb is its first field
 abbrev pub verb_of : List (List ℕ) → Option Verb
-verb_of [] = None
-verb_of (v ∷ fs) = verb_named v
+verb_of fs = named_first verb_named fs
 
 -- the fields behind the verb
 abbrev pub behind_verb : List (List ℕ) → List (List ℕ)

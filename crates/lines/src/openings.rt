@@ -2,9 +2,9 @@
 ghost use Rattle.std.specs.Prelude.{◌≡◌};
 ghost use Rattle.std.specs.Option.{option_map};
 ghost use Rattle.text.specs.Split.{left};
-ghost use Rattle.lines.specs.Openings.{kind_at, book_of, opening_of};
+ghost use Rattle.lines.specs.Openings.{kind_named, book_of, opening_of};
 
-use crate::verbs::{Verb, is, take_verb};
+use crate::verbs::{Named, Verb, take_verb};
 use kinds::fault::{Fault, Refusal};
 use text::fields::Fields;
 use text::numbers::plain;
@@ -23,16 +23,15 @@ pub struct Opening {
     pub events: usize,
 }
 
-/// The kind that the field at a place names.
-fn kind(field: &[u8], place: usize) -> Result<KindName, Fault>
-    ensures { result ≡ kind_at field.now place }
-{
-    if is(field, b"count") {
-        Ok(KindName::Count)
-    } else if is(field, b"best") {
-        Ok(KindName::Best)
-    } else {
-        Err(Fault::at(Refusal::FieldForm, place))
+impl Named for KindName {
+    ghost named = { kind_named };
+
+    fn named_by(word: &[u8]) -> Option<KindName> {
+        match word {
+            b"count" => Some(KindName::Count),
+            b"best" => Some(KindName::Best),
+            _ => None,
+        }
     }
 }
 
@@ -40,16 +39,10 @@ fn kind(field: &[u8], place: usize) -> Result<KindName, Fault>
 fn book(mut fields: Fields<'_>) -> Result<Opening, Fault>
     ensures { result ≡ book_of (left fields.entry) }
 {
-    let Some(name) = fields.next_field() else {
-        return Err(Fault::of(Refusal::FieldCount));
-    };
-    let Some(events) = fields.next_field() else {
-        return Err(Fault::of(Refusal::FieldCount));
-    };
-    let None = fields.next_field() else {
-        return Err(Fault::of(Refusal::FieldCount));
-    };
-    let kind = kind(name, 2)?;
+    let kind = fields.fixed_field()?;
+    let events = fields.fixed_field()?;
+    fields.end()?;
+    let kind = KindName::named_by(kind).ok_or(Fault::at(Refusal::FieldForm, 2))?;
     let events = plain(events, 3)?;
     Ok(Opening { kind, events })
 }

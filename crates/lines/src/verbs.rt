@@ -1,8 +1,7 @@
 //! The verb of a line.
-ghost use Rattle.std.specs.Prelude.{◌≡◌};
-ghost use Rattle.std.specs.Str.{bytes_eq};
+ghost use Rattle.std.specs.Prelude.{◌≡◌, ℕ, List, Option};
 ghost use Rattle.text.specs.Split.{left};
-ghost use Rattle.lines.specs.Verbs.{verb_of, behind_verb};
+ghost use Rattle.lines.specs.Verbs.{verb_named, named_first, behind_verb};
 
 use text::fields::Fields;
 
@@ -15,28 +14,34 @@ pub enum Verb {
     Weigh,
 }
 
-/// Whether two texts are the same.
-pub fn is(a: &[u8], b: &[u8]) -> bool
-    ensures { result ≡ bytes_eq a.now b.now }
-{
-    a == b
+/// What a word of a line can name.
+pub trait Named: Copy {
+    /// What a word names, if it names one.
+    ghost named: { List ℕ → Option Self };
+
+    /// What a word names, if it names one.
+    fn named_by(word: &[u8]) -> Option<Self>
+        ensures { result ≡ named word.now };
+}
+
+impl Named for Verb {
+    ghost named = { verb_named };
+
+    fn named_by(word: &[u8]) -> Option<Verb> {
+        match word {
+            b"book" => Some(Verb::Book),
+            b"table" => Some(Verb::Table),
+            b"join" => Some(Verb::Join),
+            b"weigh" => Some(Verb::Weigh),
+            _ => None,
+        }
+    }
 }
 
 /// Takes the verb from a line's fields, if it is one that there is.
-pub fn take_verb(fields: &mut Fields<'_>) -> Option<Verb>
-    ensures value { result ≡ verb_of (left fields.old) }
+pub fn take_verb<V: Named>(fields: &mut Fields<'_>) -> Option<V>
+    ensures value { result ≡ named_first V.named (left fields.old) }
     ensures after { left fields.new ≡ behind_verb (left fields.old) }
 {
-    let name = fields.next_field()?;
-    if is(name, b"book") {
-        Some(Verb::Book)
-    } else if is(name, b"table") {
-        Some(Verb::Table)
-    } else if is(name, b"join") {
-        Some(Verb::Join)
-    } else if is(name, b"weigh") {
-        Some(Verb::Weigh)
-    } else {
-        None
-    }
+    V::named_by(fields.next_field()?)
 }

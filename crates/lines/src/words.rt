@@ -6,6 +6,7 @@ use std::{fmt, str};
 use tables::words::LONGEST_WORD;
 
 /// The letters of a word, which are ASCII: the first `count` of 64 bytes.
+// No String: a reply is copied, and must not need memory.
 #[derive(Clone, Copy)]
 pub struct Word {
     bytes: [u8; LONGEST_WORD],

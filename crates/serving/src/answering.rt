@@ -13,6 +13,7 @@ use crate::chaining::{Listed, room};
 use crate::parting::part;
 use crate::serving::{enter, perform};
 use book::book::Book;
+use chains::chain::MarkovChain;
 use kinds::fault::Fault;
 use lines::replies::Reply;
 use statements::requests::{Request, read_request};
@@ -20,46 +21,40 @@ use statements::requests::{Request, read_request};
 /// Converts a chain in a run and enters its table, and answers its number.
 fn enter_chain<K: Listed>(
     book: &mut Book<'_, K>,
-    states: usize,
-    scale: usize,
-    letters: &[u8],
-    numbers: &[K],
+    given: MarkovChain<'_, K>,
     table: &mut [K],
 ) -> Result<Reply, Fault>
-    ensures reply { result ≡ chain_answer K.Kind.numbers K.Listed.chains (view book.old.ledger) book.old.shelf.now (length table.old) states scale letters.now numbers.now }
-    ensures ledger { view book.new.ledger ≡ chain_ledger K.Kind.numbers K.Listed.chains (view book.old.ledger) book.old.shelf.now (length table.old) states scale letters.now numbers.now }
-    ensures shelf { book.new.shelf.now ≡ chain_shelf K.Kind.numbers K.Listed.chains (view book.old.ledger) book.old.shelf.now (length table.old) states scale letters.now numbers.now }
-    ensures table { table.new ≡ or_kept (K.Listed.chains.refuses book.old.ledger.events.count states scale letters.now numbers.now (length table.old)) table.old (K.Listed.chains.converted book.old.ledger.events.count states letters.now numbers.now) }
+    ensures reply { result ≡ chain_answer K.Kind.numbers K.Listed.chains (view book.old.ledger) book.old.shelf.now (length table.old) given.entry.states given.entry.scale given.entry.letters.now given.entry.numbers.now }
+    ensures ledger { view book.new.ledger ≡ chain_ledger K.Kind.numbers K.Listed.chains (view book.old.ledger) book.old.shelf.now (length table.old) given.entry.states given.entry.scale given.entry.letters.now given.entry.numbers.now }
+    ensures shelf { book.new.shelf.now ≡ chain_shelf K.Kind.numbers K.Listed.chains (view book.old.ledger) book.old.shelf.now (length table.old) given.entry.states given.entry.scale given.entry.letters.now given.entry.numbers.now }
+    ensures table { table.new ≡ or_kept (K.Listed.chains.refuses book.old.ledger.events.count given.entry.states given.entry.scale given.entry.letters.now given.entry.numbers.now (length table.old)) table.old (K.Listed.chains.converted book.old.ledger.events.count given.entry.states given.entry.letters.now given.entry.numbers.now) }
     ensures entries { Entered K.Kind.numbers (view book.old.ledger) book.old.shelf.now → Entered K.Kind.numbers (view book.new.ledger) book.new.shelf.now }
 {
     K::convert(
         book.events().count(),
-        states,
-        scale,
-        letters,
-        numbers,
+        given.states,
+        given.scale,
+        given.letters,
+        given.numbers,
         table,
     )?;
-    enter(book, states, table)
+    enter(book, given.states, table)
 }
 
 /// Converts a chain at the front of a run and enters its table, and answers its number.
 fn chain<K: Listed>(
     book: &mut Book<'_, K>,
-    states: usize,
-    scale: usize,
-    letters: &[u8],
-    numbers: &[K],
+    given: MarkovChain<'_, K>,
     table: &mut [K],
 ) -> Result<Reply, Fault>
-    ensures reply { result ≡ chain_answer K.Kind.numbers K.Listed.chains (view book.old.ledger) book.old.shelf.now (room_for states book.old.ledger.events.count (length table.old)) states scale letters.now numbers.now }
-    ensures ledger { view book.new.ledger ≡ chain_ledger K.Kind.numbers K.Listed.chains (view book.old.ledger) book.old.shelf.now (room_for states book.old.ledger.events.count (length table.old)) states scale letters.now numbers.now }
-    ensures shelf { book.new.shelf.now ≡ chain_shelf K.Kind.numbers K.Listed.chains (view book.old.ledger) book.old.shelf.now (room_for states book.old.ledger.events.count (length table.old)) states scale letters.now numbers.now }
-    ensures table { table.new ≡ front_after (K.Listed.chains.refuses book.old.ledger.events.count states scale letters.now numbers.now (room_for states book.old.ledger.events.count (length table.old))) (room_for states book.old.ledger.events.count (length table.old)) table.old (K.Listed.chains.converted book.old.ledger.events.count states letters.now numbers.now) }
+    ensures reply { result ≡ chain_answer K.Kind.numbers K.Listed.chains (view book.old.ledger) book.old.shelf.now (room_for given.entry.states book.old.ledger.events.count (length table.old)) given.entry.states given.entry.scale given.entry.letters.now given.entry.numbers.now }
+    ensures ledger { view book.new.ledger ≡ chain_ledger K.Kind.numbers K.Listed.chains (view book.old.ledger) book.old.shelf.now (room_for given.entry.states book.old.ledger.events.count (length table.old)) given.entry.states given.entry.scale given.entry.letters.now given.entry.numbers.now }
+    ensures shelf { book.new.shelf.now ≡ chain_shelf K.Kind.numbers K.Listed.chains (view book.old.ledger) book.old.shelf.now (room_for given.entry.states book.old.ledger.events.count (length table.old)) given.entry.states given.entry.scale given.entry.letters.now given.entry.numbers.now }
+    ensures table { table.new ≡ front_after (K.Listed.chains.refuses book.old.ledger.events.count given.entry.states given.entry.scale given.entry.letters.now given.entry.numbers.now (room_for given.entry.states book.old.ledger.events.count (length table.old))) (room_for given.entry.states book.old.ledger.events.count (length table.old)) table.old (K.Listed.chains.converted book.old.ledger.events.count given.entry.states given.entry.letters.now given.entry.numbers.now) }
     ensures entries { Entered K.Kind.numbers (view book.old.ledger) book.old.shelf.now → Entered K.Kind.numbers (view book.new.ledger) book.new.shelf.now }
 {
-    let size = room(states, book.events(), table.len());
-    enter_chain(book, states, scale, letters, numbers, &mut table[..size])
+    let size = room(given.states, book.events(), table.len());
+    enter_chain(book, given, &mut table[..size])
 }
 
 /// Does what a request asks of the book, and answers it. The request's numbers stand at the front of the run.
@@ -80,7 +75,13 @@ fn perform_request<K: Listed>(
     match request {
         Request::Plain(statement) => perform(book, run, strip, statement),
         Request::Chain(states, scale, letters, count) => {
-            chain(book, states, scale, letters, &run[..count], table)
+            let given = MarkovChain {
+                states,
+                scale,
+                letters,
+                numbers: &run[..count],
+            };
+            chain(book, given, table)
         }
         Request::Part(a, b, word) => part(book, a, b, word, strip),
         Request::Ask(a, b) => ask(book, a, b),
@@ -88,6 +89,8 @@ fn perform_request<K: Listed>(
 }
 
 /// Does what a line asks of the book.
+// Beside `serve_line`, and no function over both: what is read, what is left and the run for a chain's table differ, and
+// each clause of either is about its own. The run, the strip and the table are lent one by one, as a caller has them.
 fn serve_request<K: Listed>(
     book: &mut Book<'_, K>,
     run: &mut [K],
@@ -121,10 +124,7 @@ pub fn answer_request<K: Listed>(
     ensures run { run.new ≡ request_run K.Written.meant K.Chained.chained run.old (option_map (λ x. x.now) line.entry) }
     ensures entries { Entered K.Kind.numbers (view book.old.ledger) book.old.shelf.now → Entered K.Kind.numbers (view book.new.ledger) book.new.shelf.now }
 {
-    match serve_request(book, run, strip, table, line) {
-        Ok(reply) => reply,
-        Err(fault) => Reply::Refused(fault),
-    }
+    serve_request(book, run, strip, table, line).unwrap_or_else(Reply::Refused)
 }
 
 #[cfg(test)]

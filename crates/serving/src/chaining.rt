@@ -6,7 +6,7 @@ ghost use Rattle.chains.specs.Chains.{chain_run};
 ghost use Rattle.chains.specs.Refusals.{chain_fault};
 ghost use Rattle.serving.specs.Chaining.{Converting, room_for};
 
-use chains::chain::chain;
+use chains::chain::{MarkovChain, chain};
 use kinds::best::Best;
 use kinds::count::Count;
 use kinds::fault::{Fault, Refusal};
@@ -20,6 +20,7 @@ pub trait Listed: Kind + Chained {
     ghost chains: { Converting Self };
 
     /// Writes a chain's table to a run that has its size.
+    // The chain's parts come one by one: with a struct that borrows them each impl would have to write these clauses again.
     fn convert(
         events: usize,
         states: usize,
@@ -43,7 +44,13 @@ impl Listed for Count {
         numbers: &[Count],
         output: &mut [Count],
     ) -> Result<(), Fault> {
-        chain(events, states, scale, letters, numbers, output)
+        let given = MarkovChain {
+            states,
+            scale,
+            letters,
+            numbers,
+        };
+        chain(events, given, output)
     }
 }
 

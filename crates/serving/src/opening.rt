@@ -8,6 +8,7 @@ use lines::openings::{KindName, read_opening};
 use tables::shape::Events;
 
 /// What is known of a book when it is opened.
+// Beside `Opening` of the line, whose events are a number that nobody has judged.
 #[derive(Clone, Copy)]
 pub struct Opened {
     pub kind: KindName,

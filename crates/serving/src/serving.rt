@@ -112,8 +112,5 @@ pub fn answer_line<K: Kind + Written>(
     ensures run { run.new ≡ statement_run K.Written.meant run.old (option_map (λ x. x.now) line.entry) }
     ensures entries { Entered K.Kind.numbers (view book.old.ledger) book.old.shelf.now → Entered K.Kind.numbers (view book.new.ledger) book.new.shelf.now }
 {
-    match serve_line(book, run, strip, line) {
-        Ok(reply) => reply,
-        Err(fault) => Reply::Refused(fault),
-    }
+    serve_line(book, run, strip, line).unwrap_or_else(Reply::Refused)
 }

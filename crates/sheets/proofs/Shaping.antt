@@ -1,9 +1,9 @@
 -- The form of a sheet: what is answered where refusals 9, 10 and 11 are not given, and what it is that they are not.
-use Rattle.std.proofs.Common.{◌≡◌, ℕ, ◌-◌, Bool, true, eqb, List, length, Some, None, Decides, Option, Result, sym, refl, ap, ◌∙◌, subst, MatchOption}
-use Rattle.std.proofs.lemmas.Bool.{both_ways}
+use Rattle.std.proofs.Common.{◌≡◌, ℕ, ◌-◌, ◌≤◌, true, false, eqb, List, length, Some, None, Decides, Option, sym, refl, ap, ◌∙◌, subst, MatchOption}
+use Rattle.std.proofs.lemmas.Bool.{both_ways, eq-eqb}
 use Rattle.kinds.specs.declared.fault.Fault.{Fault}
 use Rattle.kinds.specs.declared.fault.Refusal.TheVariants.{ScaleDoesNotCancel}
-use Rattle.kinds.specs.Faults.{fault, unless, or_refused}
+use Rattle.kinds.specs.Faults.{fault}
 use Rattle.kinds.specs.Semiring.{Cancels}
 use Rattle.kinds.specs.Numbers.{Numbers, is_entry, zero_of}
 use Rattle.kinds.proofs.Refusing.{test_passed, none_found, passed_test, found_none}
@@ -12,6 +12,7 @@ use Rattle.tables.specs.Shape.{one_to}
 use Rattle.tables.specs.Layout.{number_at}
 use Rattle.tables.specs.Entries.{AllEntries, FirstOther, first_other}
 use Rattle.tables.proofs.Firsts.{first_is_first}
+use Rattle.tables.proofs.Limits.{one_to_from}
 use Rattle.sheets.specs.Layout.{most_vectors, sheet_size, scale_at}
 use Rattle.sheets.specs.Answer.{shape_fault, form_fault}
 use Rattle.sheets.specs.Promises.{AtScaleTest}
@@ -52,9 +53,14 @@ module _ {K : Type 0} (N : Numbers K) (sheet : List K) where
     pub shape_passed : Shapely → (rest : Option Fault) → shape_fault N k w R sheet rest ≡ rest
     shape_passed s rest = test_passed _ _ _ s.vectors ∙ test_passed _ _ _ s.count ∙ none_found _ _ _ s.entries
 
-    -- the scale is asked
-    pub scale_asked : Shapely → {d : K} {b : Bool} → d ≡ number_at N sheet scale_at → (N.stored d ≡ true → Decides b (Cancels N.exact (N.read d))) → (r : Result (Unit {0}) Fault) → r ≡ or_refused (unless b (fault ScaleDoesNotCancel) None) tt → AtScaleTest N k w R sheet (λ t. r ≡ or_refused (form_fault N k w R sheet t) tt)
-    scale_asked s {d} {b} e says r is =
-        let P : K → Type 0 = λ x. Decides b (Cancels N.exact (N.read x)) in
+    -- the same by the counts that the check works with
+    pub shaped : {k' w' : ℕ} → k' ≡ k → w' ≡ w → 1 ≤ R → R ≤ most_vectors → length sheet ≡ sheet_size w' R k' → first_other N 1 sheet ≡ None → Shapely
+    shaped {k'} {w'} ek ew some few size none =
+        record { vectors = one_to_from most_vectors R some few; count = eq-eqb _ _ (size ∙ ap (λ x. sheet_size x R k') ew ∙ ap (sheet_size w R) ek); entries = none }
+
+    -- the scale is asked, and does not cancel
+    pub scale_refused : Shapely → {d : K} → d ≡ number_at N sheet scale_at → (N.stored d ≡ true → Decides false (Cancels N.exact (N.read d))) → (f : Fault) → f ≡ fault ScaleDoesNotCancel → AtScaleTest N k w R sheet (λ t. form_fault N k w R sheet t ≡ Some f)
+    scale_refused s {d} e says f is =
+        let P : K → Type 0 = λ x. Decides false (Cancels N.exact (N.read x)) in
         let stored = entry_stored N _ (entry_at N sheet (none_other s.entries) scale_at) in
-        (b, λ reached. subst P e (says (ap N.stored e ∙ stored)), is ∙ sym (ap (λ o. or_refused o tt) (shape_passed s (unless b (fault ScaleDoesNotCancel) None))))
+        (false, λ reached. subst P e (says (ap N.stored e ∙ stored)), shape_passed s (Some (fault ScaleDoesNotCancel)) ∙ ap Some (sym is))

@@ -9,15 +9,19 @@ use Rattle.kinds.proofs.Answers.{zero_read, zero_stored, entry_stored}
 use Rattle.tables.specs.Layout.{number_at, value}
 use Rattle.tables.specs.Entries.{AllEntries}
 
--- a call that answers is not refused
-pub never : {A : Type 0} {r : Result A Fault} {a : A} {e : Fault} → r ≡ Ok a → r ≡ Err e → ⊥
-never p q = let z : ◌≡◌ {A = ℕ} 0 1 = cc in omega arith
+-- a refusal is no answer
+pub never : {A : Type 0} {a : A} {e : Fault} → ◌≡◌ {A = Result A Fault} (Err e) (Ok a) → ⊥
+never p = let z : ◌≡◌ {A = ℕ} 0 1 = cc in omega arith
 
 -- a call has one answer
-pub same_ok : {A : Type 0} {r : Result A Fault} {a b : A} → r ≡ Ok a → r ≡ Ok b → b ≡ a
-same_ok p q = cc
+pub same_ok : {A : Type 0} {a b : A} → ◌≡◌ {A = Result A Fault} (Ok b) (Ok a) → b ≡ a
+same_ok p = cc
 
 module _ {K : Type 0} (N : Numbers K) where
+  -- a call answered x, and it answers the number of v
+  abbrev pub Answered : K → N.exact.Value → Type 0
+  Answered x v = ◌≡◌ {A = Result K Fault} (Ok x) (Ok (N.write v))
+
   -- x is the number of v, which fits
   abbrev pub StandsFor : K → N.exact.Value → Type 0
   StandsFor x v = (x ≡ N.write v) × (N.fits v ≡ true)

@@ -1,27 +1,12 @@
 -- Tests at the places below a number: the turns of a loop, and what is found.
-use Rattle.std.proofs.Common.{◌≡◌, ℕ, zero, suc, ◌+◌, ◌<◌, ◌≤◌, Bool, true, false, cond, Some, None, Option, sym, refl, ap, ◌∙◌, ap₂, add-one, arith}
+use Rattle.std.proofs.Common.{◌≡◌, ℕ, zero, suc, ◌+◌, ◌<◌, Bool, true, false, cond, ◌&&◌, is_some, is_none, not, Some, None, Ok, Option, Result, refl, ap, ◌∙◌, ap₂, arith}
 use native.Mathlib.Decide.{dec_lt}
-use Rattle.std.proofs.lemmas.Bool.{and_parts, and_from, and_left, and_right}
+use Rattle.std.proofs.lemmas.Bool.{and_parts, and_from}
+use Rattle.kinds.specs.declared.fault.Fault.{Fault}
 use Rattle.sheets.specs.Firsts.{every, first_place, or_else}
+use Rattle.sheets.proofs.Standing.{same_ok}
 
 module _ (f : ℕ → Bool) where
-  -- one place more passes
-  pub every_more : (i : ℕ) → every i f ≡ true → f i ≡ true → every (i + 1) f ≡ true
-  every_more i all here = ap (λ n. every n f) (add-one i) ∙ and_from _ _ all here
-
-  -- the loop is at its end
-  pub every_all : (n i : ℕ) → n ≤ i → i ≤ n → every i f ≡ true → every n f ≡ true
-  every_all n i a b e = let same : n ≡ i = omega arith in ap (λ m. every m f) same ∙ e
-
-  -- a place fails
-  pub every_fails : (n i : ℕ) → i < n → f i ≡ false → every n f ≡ false
-  every_fails zero i h e = absurd (omega arith)
-  every_fails (suc n) i h e =
-      elim (dec_lt i n) [
-        | yes under ↦ and_left _ _ (every_fails n i under e)
-        | no over ↦ let here : i ≡ n = omega arith in and_right _ _ (ap f (sym here) ∙ e)
-      ]
-
   pub every_at : (n : ℕ) → every n f ≡ true → (i : ℕ) → i < n → f i ≡ true
   every_at zero all i h = absurd (omega arith)
   every_at (suc n) all i h =
@@ -34,14 +19,6 @@ module _ (f : ℕ → Bool) where
   pub every_from : (n : ℕ) → ((i : ℕ) → i < n → f i ≡ true) → every n f ≡ true
   every_from zero h = refl
   every_from (suc n) h = and_from _ _ (every_from n (λ i l. h i (omega arith))) (h n (omega arith))
-
-  -- one place more passes
-  pub first_more : (i : ℕ) → first_place i f ≡ None → f i ≡ true → first_place (i + 1) f ≡ None
-  first_more i none here = ap (λ n. first_place n f) (add-one i) ∙ ap₂ or_else none (ap (λ b. cond b None (Some (i + 1))) here)
-
-  -- the loop is at its end
-  pub first_all : (n i : ℕ) → n ≤ i → i ≤ n → first_place i f ≡ None → first_place n f ≡ None
-  first_all n i a b e = let same : n ≡ i = omega arith in ap (λ m. first_place m f) same ∙ e
 
   -- a place fails, and none before it
   pub first_found : (n i : ℕ) → i < n → first_place i f ≡ None → f i ≡ false → first_place n f ≡ Some (i + 1)
@@ -89,3 +66,22 @@ module _ (f : ℕ → Bool) where
       by_case earlier None true eo eb q = let z : ◌≡◌ {A = ℕ} 0 1 = cc in absurd (omega arith)
       by_case earlier None false eo eb q = record { at = n; is = (cc); inside = omega arith; fails = eb; before = none_passes n eo }
       by_case earlier (Some m) b eo eb q = let rest = earlier (eo ∙ q) in let l = rest.inside in record { at = rest.at; is = rest.is; inside = omega arith; fails = rest.fails; before = rest.before }
+
+  none_every : (n : ℕ) → is_none (first_place n f) ≡ every n f
+  none_every zero = refl
+  none_every (suc n) = by_case (first_place n f) (every n f) (f n) (none_every n)
+    where
+      by_case : (o : Option ℕ) (a b : Bool) → is_none o ≡ a → is_none (or_else o (cond b None (Some (n + 1)))) ≡ (a && b)
+      by_case None a true e = ap (λ c. c && true) e
+      by_case None a false e = ap (λ c. c && false) e
+      by_case (Some p) a b e = ap (λ c. c && b) e
+
+  -- a call that tells whether none was found tells whether every place passes
+  pub tells_every : (n : ℕ) (o : Option ℕ) (b : Bool) → ◌≡◌ {A = Result (Option ℕ) Fault} (Ok o) (Ok (first_place n f)) → is_some o ≡ not b → b ≡ every n f
+  tells_every n o b found says = by_case b o says ∙ ap is_none (same_ok found) ∙ none_every n
+    where
+      by_case : (b : Bool) (o : Option ℕ) → is_some o ≡ not b → b ≡ is_none o
+      by_case true None e = refl
+      by_case true (Some p) e = e
+      by_case false None e = e
+      by_case false (Some p) e = refl

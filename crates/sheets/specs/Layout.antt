@@ -7,6 +7,10 @@ use Rattle.sheets.specs.Rules.{Coefficients}
 abbrev pub most_vectors : ℕ
 most_vectors = 16
 
+-- the two tables of a sheet have so many states at most
+abbrev pub most_width : ℕ
+most_width = 16
+
 -- the place of the scale
 abbrev pub scale_at : ℕ
 scale_at = 0

@@ -1,39 +1,32 @@
 -- A sheet over what the check holds: a table's side, and a page.
-use Rattle.std.specs.Prelude.{ℕ, ◌+◌, ◌*◌, ◌≤◌, List}
+use Rattle.std.specs.Prelude.{◌≡◌, ℕ, ◌<◌, List}
 use Rattle.kinds.specs.Semiring.{total}
 use Rattle.kinds.specs.Numbers.{Numbers}
-use Rattle.tables.specs.Shape.{most_events, most_states}
-use Rattle.tables.specs.Layout.{value}
+use Rattle.tables.specs.Layout.{number_at, value}
 use Rattle.tables.specs.Entries.{AllEntries}
 use Rattle.sheets.specs.declared.sides.Side.{Side}
 use Rattle.sheets.specs.declared.sides.Page.{Page}
+use Rattle.sheets.specs.declared.sides.Comparison.{Comparison}
 use Rattle.sheets.specs.Rules.{Coefficients, Half}
 use Rattle.sheets.specs.Alike.{half}
-use Rattle.sheets.specs.Layout.{most_vectors, numbers_from, coefficients}
+use Rattle.sheets.specs.Layout.{numbers_from, coefficients}
+use Rattle.sheets.specs.Answer.{starts_in}
 
--- the two tables of a sheet have so many states at most
-abbrev pub most_width : ℕ
-most_width = 16
-
--- a side has the states of a table, and stands behind those of another at most
-pub record Sized {K : Type 0} (side : Side K) : Type 0 where
-  pub states : side.states ≤ most_states
-  pub shift : side.shift ≤ most_states
-
--- a page has the events of a book and so many numbers in each vector
-pub record Bounded {K : Type 0} (page : Page K) : Type 0 where
-  pub events : page.events ≤ most_events
-  pub width : page.width ≤ most_width
-
--- and the vectors of a sheet
-pub record Shaped {K : Type 0} (page : Page K) : Type 0 where
-  pub bounded : Bounded page
-  pub vectors : page.vectors ≤ most_vectors
+-- a page has these numbers, for k events, with R vectors of w numbers
+pub record IsPage {K : Type 0} (page : Page K) (k w R : ℕ) (numbers : List K) : Type 0 where
+  pub events : page.events ≡ k
+  pub width : page.width ≡ w
+  pub vectors : page.vectors ≡ R
+  pub run : page.run.now ≡ numbers
 
 module _ {K : Type 0} (N : Numbers K) where
-  -- the sum of n products: xs from place p on, ys from place q on, by steps of a stride
-  abbrev pub dotted : List K → ℕ → List K → ℕ → ℕ → ℕ → N.exact.Value
-  dotted xs p ys q stride n = total N.exact n (λ j. N.exact.times (value N xs (p + j)) (value N ys (q + j * stride)))
+  -- n calls give the numbers of a run at these places
+  abbrev pub Gives : (ℕ → K → Type 0) → ℕ → List K → (ℕ → ℕ) → Type 0
+  Gives says n run at = (p : ℕ) (r : K) → p < n → says p r → r ≡ number_at N run (at p)
+
+  -- the sum of n products, of the numbers of xs and those of ys at these places
+  abbrev pub dotted : ℕ → List K → (ℕ → ℕ) → List K → (ℕ → ℕ) → N.exact.Value
+  dotted n xs at-x ys at-y = total N.exact n (λ p. N.exact.times (value N xs (at-x p)) (value N ys (at-y p)))
 
   -- the half that a side has on a page
   abbrev pub half_on : Page K → Side K → Half N.exact.Value
@@ -47,12 +40,19 @@ module _ {K : Type 0} (N : Numbers K) where
   abbrev pub on_side : {X : Type 0} → (Coefficients N.exact.Value → Half N.exact.Value → X) → Page K → Side K → X
   on_side f page side = f (coefficients_on page) (half_on page side)
 
-  abbrev pub on_sides : {X : Type 0} → (Coefficients N.exact.Value → Half N.exact.Value → Half N.exact.Value → X) → Page K → Side K → Side K → X
-  on_sides f page a b = f (coefficients_on page) (half_on page a) (half_on page b)
+  abbrev pub on_sides : {X : Type 0} → (Coefficients N.exact.Value → Half N.exact.Value → Half N.exact.Value → X) → Comparison K → X
+  on_sides f c = f (coefficients_on c.page) (half_on c.page c.a) (half_on c.page c.b)
 
-  -- all numbers of a side, and of a page, are entries
-  abbrev pub Entered : Side K → Type 0
-  Entered side = AllEntries N side.run.now
+  -- the same of what takes two rows of starts too
+  abbrev pub on_starts : {X : Type 0} → (Coefficients N.exact.Value → Half N.exact.Value → Half N.exact.Value → (ℕ → N.exact.Value) → (ℕ → N.exact.Value) → X) → Comparison K → List K → List K → X
+  on_starts f c starts-a starts-b = on_sides f c (starts_in N starts-a) (starts_in N starts-b)
 
-  abbrev pub Written : Page K → Type 0
-  Written page = AllEntries N page.run.now
+  -- all numbers of a page and a side, of a comparison, and of a page and two rows of starts are entries
+  abbrev pub Entered : Page K → Side K → Type 0
+  Entered page side = AllEntries N page.run.now × AllEntries N side.run.now
+
+  abbrev pub BothEntered : Comparison K → Type 0
+  BothEntered c = Entered c.page c.a × Entered c.page c.b
+
+  abbrev pub StartsEntered : Page K → List K → List K → Type 0
+  StartsEntered page starts-a starts-b = AllEntries N page.run.now × AllEntries N starts-a × AllEntries N starts-b

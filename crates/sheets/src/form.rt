@@ -1,39 +1,49 @@
 //! What a sheet is refused for by itself: its vectors, its count, its numbers and its scale.
-ghost use Rattle.std.specs.Prelude.{◌≡◌, ◌≤◌, Ok};
-ghost use Rattle.kinds.specs.Faults.{or_refused};
+ghost use Rattle.std.specs.Prelude.{◌+◌, MatchResult, ◌≡◌, None, Some};
 ghost use Rattle.sheets.specs.Answer.{form_fault};
-ghost use Rattle.sheets.specs.Layout.{most_vectors};
 ghost use Rattle.sheets.specs.Promises.{AtScaleTest};
-ghost use Rattle.sheets.specs.Views.{Bounded};
+ghost use Rattle.sheets.specs.Views.{IsPage};
 
-use crate::places::ending_place;
+use crate::Sheet;
 use crate::sides::Page;
 use kinds::fault::{Fault, Refusal};
 use kinds::kind::Kind;
 use tables::entries::first_other;
+use tables::shape::{Events, States};
 use tables::weighing::number;
 
-/// The most vectors of a sheet.
+/// The most vectors of a sheet. They are asked once, so they have no type as events and states have.
 const MOST_VECTORS: usize = 16;
 
-/// Refusals 9, 10, 11 and 12.
-pub(crate) fn check_form<K: Kind>(page: Page<K>) -> Result<(), Fault>
-    requires { Bounded page }
-    ensures answer { AtScaleTest K.Kind.numbers page.entry.events page.entry.width page.entry.vectors page.entry.run.now (λ b. result ≡ or_refused (form_fault K.Kind.numbers page.entry.events page.entry.width page.entry.vectors page.entry.run.now b) tt) }
-    ensures few { result ≡ Ok tt → page.entry.vectors ≤ most_vectors }
+/// The page of a sheet for tables with these states, or refusals 9, 10, 11 and 12.
+pub(crate) fn read_page<'a, K: Kind>(
+    events: Events,
+    a: States,
+    b: States,
+    sheet: Sheet<'a, K>,
+) -> Result<Page<'a, K>, Fault>
+    ensures { AtScaleTest K.Kind.numbers events.count (a.count + b.count) sheet.entry.vectors sheet.entry.run.now (λ t. MatchResult result (λ page. IsPage page events.count (a.count + b.count) sheet.entry.vectors sheet.entry.run.now × (form_fault K.Kind.numbers events.count (a.count + b.count) sheet.entry.vectors sheet.entry.run.now t ≡ None)) (λ f. form_fault K.Kind.numbers events.count (a.count + b.count) sheet.entry.vectors sheet.entry.run.now t ≡ Some f)) }
 {
-    if page.vectors < 1 || page.vectors > MOST_VECTORS {
+    let events = events.count();
+    let width = a.count() + b.count();
+    let Sheet { vectors, run } = sheet;
+    if vectors < 1 || vectors > MOST_VECTORS {
         return Err(Fault::of(Refusal::VectorCount));
     }
-    let size = ending_place(page.width, page.vectors, page.events) + page.vectors;
-    if page.run.len() != size {
+    let size = 1 + vectors * width + events * vectors * vectors + vectors;
+    if run.len() != size {
         return Err(Fault::of(Refusal::SheetCount));
     }
-    if let Some(place) = first_other(page.run) {
+    if let Some(place) = first_other(run) {
         return Err(Fault::at(Refusal::NotASheetEntry, place));
     }
-    if number(page.run, 0).cancels() {
-        Ok(())
+    if number(run, 0).cancels() {
+        Ok(Page {
+            events,
+            width,
+            vectors,
+            run,
+        })
     } else {
         Err(Fault::of(Refusal::ScaleDoesNotCancel))
     }

@@ -1,5 +1,5 @@
 -- What a line asks of an open book, or why it is refused, where chains, parts and asking are served beside statements.
-use Rattle.std.specs.Prelude.{◌≡◌, ℕ, ◌≤◌, min, Bool, cond, List, [], ◌∷◌, length, take, Some, None, Ok, Err, codes, Option, Result, nat_le}
+use Rattle.std.specs.Prelude.{◌≡◌, ℕ, ◌≤◌, Bool, cond, List, [], ◌∷◌, length, take, Some, None, Ok, Err, codes, Option, Result}
 use Rattle.std.specs.Str.{bytes_eq}
 use Rattle.kinds.specs.declared.fault.Fault.{Fault}
 use Rattle.kinds.specs.declared.fault.Refusal.TheVariants.{LineBounds, VerbNotServed, FieldCount}
@@ -7,12 +7,12 @@ use Rattle.kinds.specs.Faults.{fault, then}
 use Rattle.text.specs.declared.numbers.Reading.{Reading}
 use Rattle.text.specs.Split.{split}
 use Rattle.text.specs.Numerals.{plain_at}
-use Rattle.lines.specs.Verbs.{behind_verb}
+use Rattle.lines.specs.Verbs.{named_first, behind_verb}
 use Rattle.statements.specs.declared.requests.FurtherVerb.{FurtherVerb}
 use Rattle.statements.specs.declared.requests.FurtherVerb.TheVariants.{Chain, Part, Ask}
 use Rattle.statements.specs.declared.requests.Request.{Request}
 use Rattle.statements.specs.declared.requests.Request.TheVariants as request
-use Rattle.statements.specs.Statements.{Asked, InRun, asked_by, front, most_numbers, numbers_at, overlaid, statement_of, statement_run}
+use Rattle.statements.specs.Statements.{Asked, InRun, asked_by, front, numbers_at, overlaid, run_then, three_fixed, statement_of, statement_run}
 
 -- the verb beside those of statements that a field names
 abbrev pub further_named : List ℕ → Option FurtherVerb
@@ -23,8 +23,7 @@ further_named s =
 
 -- a line's verb is its first field
 abbrev pub further_of : List (List ℕ) → Option FurtherVerb
-further_of [] = None
-further_of (v ∷ fs) = further_named v
+further_of fs = named_first further_named fs
 
 -- What a line asks of an open book.
 pub data Requested (K : Type 0) : Type 0 where
@@ -66,20 +65,6 @@ two_tables (a ∷ []) = Err (fault FieldCount)
 two_tables (a ∷ b ∷ []) = then (plain_at a 2) (λ first. then (plain_at b 3) (λ second. Ok (first, second)))
 two_tables (a ∷ b ∷ f ∷ fs) = Err (fault FieldCount)
 
--- three fixed fields, and those behind them, which are numbers
-pub record ThreeFixed : Type 0 where
-  pub first : List ℕ
-  pub second : List ℕ
-  pub third : List ℕ
-  pub numbers : List (List ℕ)
-
--- the numbers behind the fixed fields are counted before any form is judged: no more of them than a line may have, and than a run has room for
-abbrev pub three_fixed : ℕ → List (List ℕ) → Result ThreeFixed Fault
-three_fixed room [] = Err (fault FieldCount)
-three_fixed room (a ∷ []) = Err (fault FieldCount)
-three_fixed room (a ∷ b ∷ []) = Err (fault FieldCount)
-three_fixed room (a ∷ b ∷ c ∷ fs) = cond (nat_le (length fs) (min most_numbers room)) (Ok (record { first = a; second = b; third = c; numbers = fs })) (Err (fault FieldCount))
-
 module _ {K : Type 0} (meant : Reading → Option K) where
   -- chain,STATES,SCALE,LETTERS,numbers behind its verb
   abbrev pub chain_of : ℕ → List (List ℕ) → Result (Requested K) Fault
@@ -97,11 +82,7 @@ module _ {K : Type 0} (meant : Reading → Option K) where
   request_of chained room None = Err (fault LineBounds)
   request_of chained room (Some text) = request_by chained (further_of (split text)) room (behind_verb (split text)) (statement_of meant room (Some text))
 
-  -- the run afterwards: numbers are written to it from the front as far as they are read
-  abbrev pub run_then : {A : Type 0} → Result A Fault → List K → (A → List K) → List K
-  run_then (Ok a) run f = f a
-  run_then (Err e) run f = run
-
+  -- the run afterwards
   abbrev pub chain_run : List K → List (List ℕ) → List K
   chain_run run fs = run_then (three_fixed (length run) fs) run (λ x. run_then (plain_at x.first 2) run (λ _. run_then (plain_at x.second 3) run (λ _. overlaid run (front meant x.numbers))))
 

@@ -1,5 +1,6 @@
 -- What a line asks of an open book, or why it is refused.
 use Rattle.std.specs.Prelude.{◌≡◌, ℕ, ◌+◌, ◌≤◌, min, cond, List, [], ◌∷◌, ◌++◌, length, take, drop, Some, None, Ok, Err, Option, Result, ◌==◌, nat_le}
+use Rattle.std.specs.Option.{option_and_then}
 use Rattle.kinds.specs.declared.fault.Fault.{Fault}
 use Rattle.kinds.specs.declared.fault.Refusal.TheVariants.{LineBounds, VerbNotServed, FieldCount, FieldForm}
 use Rattle.kinds.specs.declared.count.Count.{Count}
@@ -15,17 +16,15 @@ use Rattle.text.specs.Split.{split}
 use Rattle.text.specs.Numerals.{reading_of, plain_at}
 use Rattle.lines.specs.Verbs.{verb_of, behind_verb}
 
--- what a field means in a count book: a hyphen is no number there
+-- what a reading means in a count book: a hyphen is no number there
 abbrev pub count_meant : Reading → Option Count
 count_meant (reading.Number z) = Some (record { 0 = z })
 count_meant reading.Hyphen = None
-count_meant reading.Malformed = None
 
--- what a field means in a best book: a hyphen is none there
+-- what a reading means in a best book: a hyphen is none there
 abbrev pub best_meant : Reading → Option Best
 best_meant (reading.Number z) = Some (record { 0 = Some z })
 best_meant reading.Hyphen = Some (record { 0 = None })
-best_meant reading.Malformed = None
 
 -- What a line asks of an open book.
 pub data Asked (K : Type 0) : Type 0 where
@@ -63,7 +62,30 @@ table_and_word (a ∷ []) = Err (fault FieldCount)
 table_and_word (a ∷ w ∷ []) = then (plain_at a 2) (λ table. Ok (table, w))
 table_and_word (a ∷ w ∷ f ∷ fs) = Err (fault FieldCount)
 
+-- three fixed fields, and those behind them, which are numbers
+pub record ThreeFixed : Type 0 where
+  pub first : List ℕ
+  pub second : List ℕ
+  pub third : List ℕ
+  pub numbers : List (List ℕ)
+
+-- the numbers behind the fixed fields are counted before any form is judged: no more of them than a line may have, and than a run has room for
+abbrev pub three_fixed : ℕ → List (List ℕ) → Result ThreeFixed Fault
+three_fixed room [] = Err (fault FieldCount)
+three_fixed room (a ∷ []) = Err (fault FieldCount)
+three_fixed room (a ∷ b ∷ []) = Err (fault FieldCount)
+three_fixed room (a ∷ b ∷ c ∷ fs) = cond (nat_le (length fs) (min most_numbers room)) (Ok (record { first = a; second = b; third = c; numbers = fs })) (Err (fault FieldCount))
+
+-- the run afterwards: numbers are written to it only behind what is not refused
+abbrev pub run_then : {K A : Type 0} → Result A Fault → List K → (A → List K) → List K
+run_then (Ok a) run f = f a
+run_then (Err e) run f = run
+
 module _ {K : Type 0} (meant : Reading → Option K) where
+  -- the number that a field writes, if it has the form of one
+  abbrev pub number_in : List ℕ → Option K
+  number_in f = option_and_then meant (reading_of f)
+
   abbrev pub put : Option K → List K → List K
   put None ks = []
   put (Some k) ks = k ∷ ks
@@ -71,7 +93,7 @@ module _ {K : Type 0} (meant : Reading → Option K) where
   -- the numbers of the fields up to the first that has not the form of one
   abbrev pub front : List (List ℕ) → List K
   front [] = []
-  front (f ∷ fs) = put (meant (reading_of f)) (front fs)
+  front (f ∷ fs) = put (number_in f) (front fs)
 
   -- the numbers of all fields, the first of which stands at place p of the line, unless one has another form
   abbrev pub numbers_at : ℕ → List (List ℕ) → Result (List K) Fault
@@ -84,13 +106,7 @@ module _ {K : Type 0} (meant : Reading → Option K) where
 
   -- join,A,B,R,numbers behind its verb
   abbrev pub join_of : ℕ → List (List ℕ) → Result (Asked K) Fault
-  join_of room [] = Err (fault FieldCount)
-  join_of room (a ∷ []) = Err (fault FieldCount)
-  join_of room (a ∷ b ∷ []) = Err (fault FieldCount)
-  join_of room (a ∷ b ∷ r ∷ fs) =
-      cond (nat_le (length fs) (min most_numbers room))
-      (then (plain_at a 2) (λ x. then (plain_at b 3) (λ y. then (plain_at r 4) (λ vectors. then (numbers_at 5 fs) (λ ks. Ok (join x y vectors ks))))))
-      (Err (fault FieldCount))
+  join_of room fs = then (three_fixed room fs) (λ x. then (plain_at x.first 2) (λ a. then (plain_at x.second 3) (λ b. then (plain_at x.third 4) (λ vectors. then (numbers_at 5 x.numbers) (λ ks. Ok (join a b vectors ks))))))
 
   abbrev pub statement_by : Option Verb → ℕ → List (List ℕ) → Result (Asked K) Fault
   statement_by (Some Table) room fs = table_of room fs
@@ -105,22 +121,12 @@ module _ {K : Type 0} (meant : Reading → Option K) where
   statement_of room (Some text) = statement_by (verb_of (split text)) room (behind_verb (split text))
 
   -- the run afterwards: numbers are written to it from the front as far as they are read
-  abbrev pub kept_or : {A : Type 0} → Result A Fault → List K → List K → List K
-  kept_or (Ok a) run new = new
-  kept_or (Err e) run new = run
-
   abbrev pub table_run : List K → List (List ℕ) → List K
   table_run run [] = run
-  table_run run (s ∷ fs) = cond (nat_le (length fs) (min most_numbers (length run))) (kept_or (plain_at s 2) run (overlaid run (front fs))) run
+  table_run run (s ∷ fs) = cond (nat_le (length fs) (min most_numbers (length run))) (run_then (plain_at s 2) run (λ _. overlaid run (front fs))) run
 
   abbrev pub join_run : List K → List (List ℕ) → List K
-  join_run run [] = run
-  join_run run (a ∷ []) = run
-  join_run run (a ∷ b ∷ []) = run
-  join_run run (a ∷ b ∷ r ∷ fs) =
-      cond (nat_le (length fs) (min most_numbers (length run)))
-      (kept_or (plain_at a 2) run (kept_or (plain_at b 3) run (kept_or (plain_at r 4) run (overlaid run (front fs)))))
-      run
+  join_run run fs = run_then (three_fixed (length run) fs) run (λ x. run_then (plain_at x.first 2) run (λ _. run_then (plain_at x.second 3) run (λ _. run_then (plain_at x.third 4) run (λ _. overlaid run (front x.numbers)))))
 
   abbrev pub statement_run_by : Option Verb → List K → List (List ℕ) → List K
   statement_run_by (Some Table) run fs = table_run run fs

@@ -1,16 +1,14 @@
 //! Requests: statements, and beside them chains, parts and asking.
-ghost use Rattle.std.specs.Prelude.{◌≡◌, ◌≤◌, min, Bool, true, false, length, IfOk, Ok, Err, MatchResult, OnOk};
+ghost use Rattle.std.specs.Prelude.{◌≡◌, Bool, true, false, length, IfOk, Ok, Err, MatchResult};
 ghost use Rattle.std.specs.Option.{option_map};
 ghost use Rattle.text.specs.Split.{left};
-ghost use Rattle.lines.specs.Verbs.{behind_verb};
-ghost use Rattle.statements.specs.Statements.{most_numbers};
-ghost use Rattle.statements.specs.Requests.{further_named, further_of, three_fixed, chain_of, chain_run, two_tables_and_word, two_tables, request_of, request_run, RequestInRun, Requests};
+ghost use Rattle.statements.specs.Requests.{further_named, chain_of, chain_run, two_tables_and_word, two_tables, request_of, request_run, RequestInRun, Requests};
 
-use crate::statements::{MOST_NUMBERS, Statement, Written, more_than, read_run, read_statement};
+use crate::statements::{Statement, Written, count_numbers, read_run, read_statement};
 use kinds::best::Best;
 use kinds::count::Count;
 use kinds::fault::{Fault, Refusal};
-use lines::verbs::is;
+use lines::verbs::{Named, take_verb};
 use text::fields::Fields;
 use text::numbers::plain;
 
@@ -20,6 +18,19 @@ pub enum FurtherVerb {
     Chain,
     Part,
     Ask,
+}
+
+impl Named for FurtherVerb {
+    ghost named = { further_named };
+
+    fn named_by(word: &[u8]) -> Option<FurtherVerb> {
+        match word {
+            b"chain" => Some(FurtherVerb::Chain),
+            b"part" => Some(FurtherVerb::Part),
+            b"ask" => Some(FurtherVerb::Ask),
+            _ => None,
+        }
+    }
 }
 
 /// A number that a line can write, and whether chains of such numbers are served.
@@ -49,6 +60,7 @@ impl Chained for Best {
 }
 
 /// What a line asks of an open book. Its numbers stand at the front of the run that they were read into.
+// It counts them as a statement does.
 #[derive(Clone, Copy)]
 pub enum Request<'a> {
     /// Do what a statement says.
@@ -61,56 +73,19 @@ pub enum Request<'a> {
     Ask(usize, usize),
 }
 
-/// Takes the verb from a line's fields, if it is one that is served beside those of statements.
-fn take_further_verb(fields: &mut Fields<'_>) -> Option<FurtherVerb>
-    ensures value { result ≡ further_of (left fields.old) }
-    ensures after { left fields.new ≡ behind_verb (left fields.old) }
-{
-    let name = fields.next_field()?;
-    if is(name, b"chain") {
-        Some(FurtherVerb::Chain)
-    } else if is(name, b"part") {
-        Some(FurtherVerb::Part)
-    } else if is(name, b"ask") {
-        Some(FurtherVerb::Ask)
-    } else {
-        None
-    }
-}
-
-/// Three fixed fields, where no more fields follow than a line may have numbers and than there is room for.
-fn three_fixed<'a>(
-    fields: &mut Fields<'a>,
-    room: usize,
-) -> Result<(&'a [u8], &'a [u8], &'a [u8]), Fault>
-    ensures value { MatchResult result (λ x. three_fixed room (left fields.old) ≡ Ok (record { first = x.0.now; second = x.1.now; third = x.2.now; numbers = left fields.new })) (λ f. three_fixed room (left fields.old) ≡ Err f) }
-    ensures few { OnOk result (length (left fields.new) ≤ min most_numbers room) }
-{
-    let Some(first) = fields.next_field() else {
-        return Err(Fault::of(Refusal::FieldCount));
-    };
-    let Some(second) = fields.next_field() else {
-        return Err(Fault::of(Refusal::FieldCount));
-    };
-    let Some(third) = fields.next_field() else {
-        return Err(Fault::of(Refusal::FieldCount));
-    };
-    if more_than(*fields, MOST_NUMBERS.min(room)) {
-        return Err(Fault::of(Refusal::FieldCount));
-    }
-    Ok((first, second, third))
-}
-
 /// The fields of a chain line behind its verb; the letters are any bytes.
 fn chain<'a, K: Written>(mut fields: Fields<'a>, run: &mut [K]) -> Result<Request<'a>, Fault>
     ensures value { Requests K.Written.meant (chain_of K.Written.meant (length run.old) (left fields.entry)) run.new result }
     ensures within { IfOk result (λ s. RequestInRun s (length run.new)) }
     ensures run { run.new ≡ chain_run K.Written.meant run.old (left fields.entry) }
 {
-    let (states, scale, letters) = three_fixed(&mut fields, run.len())?;
+    let states = fields.fixed_field()?;
+    let scale = fields.fixed_field()?;
+    let letters = fields.fixed_field()?;
+    let count = count_numbers(fields, run.len())?;
     let states = plain(states, 2)?;
     let scale = plain(scale, 3)?;
-    let count = read_run(fields, 5, run)?;
+    read_run(fields, 5, run)?;
     Ok(Request::Chain(states, scale, letters, count))
 }
 
@@ -118,18 +93,10 @@ fn chain<'a, K: Written>(mut fields: Fields<'a>, run: &mut [K]) -> Result<Reques
 fn two_tables_and_word<'a>(mut fields: Fields<'a>) -> Result<(usize, usize, &'a [u8]), Fault>
     ensures { MatchResult result (λ x. two_tables_and_word (left fields.entry) ≡ Ok (x.0, x.1, x.2.now)) (λ f. two_tables_and_word (left fields.entry) ≡ Err f) }
 {
-    let Some(first) = fields.next_field() else {
-        return Err(Fault::of(Refusal::FieldCount));
-    };
-    let Some(second) = fields.next_field() else {
-        return Err(Fault::of(Refusal::FieldCount));
-    };
-    let Some(word) = fields.next_field() else {
-        return Err(Fault::of(Refusal::FieldCount));
-    };
-    let None = fields.next_field() else {
-        return Err(Fault::of(Refusal::FieldCount));
-    };
+    let first = fields.fixed_field()?;
+    let second = fields.fixed_field()?;
+    let word = fields.fixed_field()?;
+    fields.end()?;
     let first = plain(first, 2)?;
     let second = plain(second, 3)?;
     Ok((first, second, word))
@@ -139,15 +106,9 @@ fn two_tables_and_word<'a>(mut fields: Fields<'a>) -> Result<(usize, usize, &'a 
 fn two_tables(mut fields: Fields<'_>) -> Result<(usize, usize), Fault>
     ensures { result ≡ two_tables (left fields.entry) }
 {
-    let Some(first) = fields.next_field() else {
-        return Err(Fault::of(Refusal::FieldCount));
-    };
-    let Some(second) = fields.next_field() else {
-        return Err(Fault::of(Refusal::FieldCount));
-    };
-    let None = fields.next_field() else {
-        return Err(Fault::of(Refusal::FieldCount));
-    };
+    let first = fields.fixed_field()?;
+    let second = fields.fixed_field()?;
+    fields.end()?;
     let first = plain(first, 2)?;
     let second = plain(second, 3)?;
     Ok((first, second))
@@ -167,7 +128,7 @@ pub fn read_request<'a, K: Chained>(
         return Err(Fault::of(Refusal::LineBounds));
     };
     let mut fields = Fields::new(text);
-    match take_further_verb(&mut fields) {
+    match take_verb(&mut fields) {
         Some(FurtherVerb::Chain) if K::takes_chains() => chain(fields, run),
         Some(FurtherVerb::Chain) => Err(Fault::of(Refusal::VerbNotServed)),
         Some(FurtherVerb::Part) => {

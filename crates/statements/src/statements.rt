@@ -1,9 +1,11 @@
 //! The lines on an open book, and the numbers of a line.
-ghost use Rattle.std.specs.Prelude.{◌≡◌, ◌+◌, ◌<◌, ◌≤◌, length, take, ℤ, IfOk, Some, Ok, Err, Option, MatchResult, nat_lt};
+ghost use Rattle.std.specs.Prelude.{◌≡◌, ◌<◌, ◌≤◌, min, length, take, ℤ, IfOk, Some, Ok, Err, Option, MatchResult};
 ghost use Rattle.std.specs.Option.{option_map};
+ghost use Rattle.kinds.specs.declared.fault.Refusal.TheVariants.{FieldCount};
+ghost use Rattle.kinds.specs.Faults.{fault};
 ghost use Rattle.text.specs.declared.numbers.Reading.{Reading as Read};
 ghost use Rattle.text.specs.Split.{left};
-ghost use Rattle.statements.specs.Statements.{most_numbers, count_meant, best_meant, front, numbers_at, overlaid, table_of, table_run, join_of, join_run, table_and_word, statement_of, statement_run, InRun, Reads};
+ghost use Rattle.statements.specs.Statements.{most_numbers, count_meant, best_meant, number_in, front, numbers_at, overlaid, table_of, table_run, join_of, join_run, table_and_word, statement_of, statement_run, InRun, Reads};
 
 use kinds::best::Best;
 use kinds::count::Count;
@@ -16,6 +18,7 @@ use text::numbers::{Reading, plain, read_number};
 pub const MOST_NUMBERS: usize = 1809;
 
 /// A number that a line can write.
+// No `From` and `TryFrom`: both sides of them are of other crates, and neither says what a field means.
 pub trait Written: Copy {
     /// The number that a field means, if it means one.
     ghost meant: { Read → Option Self };
@@ -40,7 +43,7 @@ impl Written for Count {
     fn from_reading(reading: Reading) -> Option<Count> {
         match reading {
             Reading::Number(z) => Some(Count(z)),
-            Reading::Hyphen | Reading::Malformed => None,
+            Reading::Hyphen => None,
         }
     }
 
@@ -58,7 +61,6 @@ impl Written for Best {
         match reading {
             Reading::Number(z) => Some(Best(Some(z))),
             Reading::Hyphen => Some(Best(None)),
-            Reading::Malformed => None,
         }
     }
 
@@ -68,6 +70,7 @@ impl Written for Best {
 }
 
 /// What a line asks of an open book. Its numbers stand at the front of the run that they were read into.
+// It counts its numbers and does not hold them: of a run that a result borrows from, no clause could say what is in it afterwards.
 #[derive(Clone, Copy)]
 pub enum Statement<'a> {
     /// Enter a table with so many states and so many numbers.
@@ -78,42 +81,41 @@ pub enum Statement<'a> {
     Weigh(usize, &'a [u8]),
 }
 
-/// Whether more than so many fields are left.
-pub(crate) fn more_than(mut fields: Fields<'_>, most: usize) -> bool
-    ensures { result ≡ nat_lt most (length (left fields.entry)) }
+/// The count of the numbers that are left, unless they are more than a line may have or than there is room for.
+pub(crate) fn count_numbers(fields: Fields<'_>, room: usize) -> Result<usize, Fault>
+    ensures { MatchResult result (λ n. (n ≡ length (left fields.entry)) × (n ≤ min most_numbers room)) (λ e. (e ≡ fault FieldCount) × (min most_numbers room < length (left fields.entry))) }
 {
-    let mut n = 0;
-    while let Some(_) = fields.next_field() {
-        if n == most {
-            return true;
-        }
-        n += 1;
+    let most = MOST_NUMBERS.min(room);
+    let count = fields.take(most + 1).count();
+    if count > most {
+        return Err(Fault::of(Refusal::FieldCount));
     }
-    false
+    Ok(count)
+}
+
+/// The number that a field writes, if it has the form of one.
+fn number<K: Written>(field: &[u8]) -> Option<K>
+    ensures { result ≡ number_in K.Written.meant field.now }
+{
+    K::from_reading(read_number(field)?)
 }
 
 /// Reads the fields that are left as numbers to the front of the run; the first of them stands at the place `first` of the line.
 pub(crate) fn read_run<K: Written>(
-    mut fields: Fields<'_>,
+    fields: Fields<'_>,
     first: usize,
     run: &mut [K],
-) -> Result<usize, Fault>
+) -> Result<(), Fault>
     requires room { length (left fields) ≤ length run.old }
     requires few { length (left fields) ≤ most_numbers }
     requires small { first < 16 }
-    ensures value { MatchResult result (λ n. numbers_at K.Written.meant first (left fields.entry) ≡ Ok (take n run.new)) (λ f. numbers_at K.Written.meant first (left fields.entry) ≡ Err f) }
-    ensures within { IfOk result (λ n. n ≤ length run.new) }
+    ensures value { MatchResult result (λ _. numbers_at K.Written.meant first (left fields.entry) ≡ Ok (take (length (left fields.entry)) run.new)) (λ f. numbers_at K.Written.meant first (left fields.entry) ≡ Err f) }
     ensures run { run.new ≡ overlaid run.old (front K.Written.meant (left fields.entry)) }
 {
-    let mut n = 0;
-    while let Some(field) = fields.next_field() {
-        let Some(number) = K::from_reading(read_number(field)) else {
-            return Err(Fault::at(Refusal::FieldForm, first + n));
-        };
-        run[n] = number;
-        n += 1;
+    for (n, field) in fields.enumerate() {
+        run[n] = number(field).ok_or(Fault::at(Refusal::FieldForm, first + n))?;
     }
-    Ok(n)
+    Ok(())
 }
 
 /// The fields of a table line behind its verb.
@@ -122,14 +124,10 @@ fn table<'a, K: Written>(mut fields: Fields<'a>, run: &mut [K]) -> Result<Statem
     ensures within { IfOk result (λ s. InRun s (length run.new)) }
     ensures run { run.new ≡ table_run K.Written.meant run.old (left fields.entry) }
 {
-    let Some(states) = fields.next_field() else {
-        return Err(Fault::of(Refusal::FieldCount));
-    };
-    if more_than(fields, MOST_NUMBERS.min(run.len())) {
-        return Err(Fault::of(Refusal::FieldCount));
-    }
+    let states = fields.fixed_field()?;
+    let count = count_numbers(fields, run.len())?;
     let states = plain(states, 2)?;
-    let count = read_run(fields, 3, run)?;
+    read_run(fields, 3, run)?;
     Ok(Statement::Table(states, count))
 }
 
@@ -139,22 +137,14 @@ fn join<'a, K: Written>(mut fields: Fields<'a>, run: &mut [K]) -> Result<Stateme
     ensures within { IfOk result (λ s. InRun s (length run.new)) }
     ensures run { run.new ≡ join_run K.Written.meant run.old (left fields.entry) }
 {
-    let Some(a) = fields.next_field() else {
-        return Err(Fault::of(Refusal::FieldCount));
-    };
-    let Some(b) = fields.next_field() else {
-        return Err(Fault::of(Refusal::FieldCount));
-    };
-    let Some(vectors) = fields.next_field() else {
-        return Err(Fault::of(Refusal::FieldCount));
-    };
-    if more_than(fields, MOST_NUMBERS.min(run.len())) {
-        return Err(Fault::of(Refusal::FieldCount));
-    }
+    let a = fields.fixed_field()?;
+    let b = fields.fixed_field()?;
+    let vectors = fields.fixed_field()?;
+    let count = count_numbers(fields, run.len())?;
     let a = plain(a, 2)?;
     let b = plain(b, 3)?;
     let vectors = plain(vectors, 4)?;
-    let count = read_run(fields, 5, run)?;
+    read_run(fields, 5, run)?;
     Ok(Statement::Join(a, b, vectors, count))
 }
 
@@ -162,15 +152,9 @@ fn join<'a, K: Written>(mut fields: Fields<'a>, run: &mut [K]) -> Result<Stateme
 fn table_and_word<'a>(mut fields: Fields<'a>) -> Result<(usize, &'a [u8]), Fault>
     ensures { MatchResult result (λ x. table_and_word (left fields.entry) ≡ Ok (x.0, x.1.now)) (λ f. table_and_word (left fields.entry) ≡ Err f) }
 {
-    let Some(table) = fields.next_field() else {
-        return Err(Fault::of(Refusal::FieldCount));
-    };
-    let Some(word) = fields.next_field() else {
-        return Err(Fault::of(Refusal::FieldCount));
-    };
-    let None = fields.next_field() else {
-        return Err(Fault::of(Refusal::FieldCount));
-    };
+    let table = fields.fixed_field()?;
+    let word = fields.fixed_field()?;
+    fields.end()?;
     let table = plain(table, 2)?;
     Ok((table, word))
 }

@@ -9,4 +9,3 @@ pub mod Paths
 pub mod Admitted
 pub mod Weighed
 pub mod EntryRuns
-pub mod Letters

@@ -1,6 +1,7 @@
 -- The weighing path, event by event.
-use Rattle.std.proofs.Common.{◌≡◌, ℕ, zero, suc, ◌+◌, ◌-◌, ◌<◌, ◌≤◌, List, [], ◌∷◌, length, get_or, drop, Ok, Err, sym, ap, ◌∙◌, arith}
-use Rattle.std.proofs.lemmas.List.{drop_more, length-map, get_or-map}
+use Rattle.std.proofs.Common.{◌≡◌, ℕ, zero, suc, ◌+◌, ◌-◌, ◌<◌, ◌≤◌, List, [], ◌∷◌, length, reverse, get_or, drop, Ok, Err, sym, ap, ◌∙◌, arith}
+use Rattle.std.proofs.lemmas.List.{drop_more, length-map, get_or-map, get_or-reverse, length-reverse}
+use Rattle.std.proofs.lemmas.Grind.{get_or_default_zero}
 use Rattle.kinds.specs.declared.fault.Fault.{Fault}
 use Rattle.kinds.specs.Faults.{then}
 use Rattle.kinds.specs.Numbers.{Numbers}
@@ -34,6 +35,14 @@ module _ {K : Type 0} (N : Numbers K) (n : ℕ) (t : ℕ → N.exact.Value) wher
   -- the path's last sum
   pub path_ok : (w : List ℕ) (x : ℕ → N.exact.Value) → backward N n t w ≡ Ok (listed n x) → path_answer N n t w ≡ sums N n t x
   path_ok w x h = ap (λ c. then c (λ v. sums N n (λ i. t (start_at i)) (at_state N v))) h ∙ sums_listed N n t x
+
+-- the byte that comes after k bytes from the end, by its place in the word
+pub from_the_end : (word : List ℕ) (k b : ℕ) → (k < length (reverse word)) × (b ≡ get_or (reverse word) k b) → (k < length word) × (b ≡ get_or word (length word - k - 1) 0)
+from_the_end word k b t =
+    let low : k < length word = omega (arith, length-reverse word, t.0) in
+    let place : length word - 1 - k ≡ length word - k - 1 = omega arith in
+    let inside : length word - k - 1 < length word = omega arith in
+    (low, t.1 ∙ get_or-reverse word k b low ∙ ap (λ p. get_or word p b) place ∙ get_or_default_zero word (length word - k - 1) b inside)
 
 -- one event earlier, by the event that the code has
 module _ {K : Type 0} (N : Numbers K) (n : ℕ) (run : List K) (word : List ℕ) (i e : ℕ) (low : 0 < i) (high : i ≤ length word) (is : e ≡ event_of (get_or word (i - 1) 0)) where

@@ -2,7 +2,6 @@
 use Rattle.std.specs.Prelude.{◌≡◌, ℕ, ◌+◌, ◌*◌, ◌<◌, cond, List, length, replicate, Ok, Err, Result, ◌==◌}
 use Rattle.kinds.specs.declared.fault.Fault.{Fault}
 use Rattle.kinds.specs.Numbers.{Numbers, Says, zero_of}
-use Rattle.tables.specs.Shape.{most_states}
 use Rattle.tables.specs.Layout.{step_at, number_at, value, AllStored, Stored}
 use Rattle.tables.specs.Path.{listed, sums, rows, stepped, path_answer}
 
@@ -15,36 +14,35 @@ module _ {K : Type 0} (N : Numbers K) where
   abbrev pub cleared : List K → List K
   cleared strip = cond (length strip == strip_size) (replicate strip_size (zero_of N)) strip
 
-  -- the numbers of a strip's second vector
-  abbrev pub second : List K → ℕ → K
-  second strip j = number_at N strip (most_states + j)
-
   -- r answers that the numbers x are the vector c of n states, or is c's refusal
   abbrev pub Stands : ℕ → Result (List N.exact.Value) Fault → (ℕ → K) → Result (Unit {0}) Fault → Type 0
   Stands n c x (Ok _) = (c ≡ Ok (listed n (λ j. N.read (x j)))) × AllStored N n x
   Stands n c x (Err e) = c ≡ Err e
 
-  -- the sum of m products, of a run's numbers from a place on and a strip's
-  abbrev pub dotted : List K → ℕ → List K → ℕ → Result N.exact.Value Fault
-  dotted run at strip m = sums N m (λ j. value N run (at + j)) (value N strip)
+  -- the sum of products of a vector's numbers and a run's from a place on
+  abbrev pub dotted : List K → ℕ → List K → Result N.exact.Value Fault
+  dotted run at vector = sums N (length vector) (λ j. value N run (at + j)) (value N vector)
 
   -- r is that sum, if all its numbers are stored
-  abbrev pub DotSays : List K → ℕ → List K → ℕ → Result K Fault → Type 0
-  DotSays run at strip m r = AllStored N m (λ j. number_at N run (at + j)) → AllStored N m (number_at N strip) → Says N (dotted run at strip m) r
+  abbrev pub DotSays : List K → ℕ → List K → Result K Fault → Type 0
+  DotSays run at vector r =
+      AllStored N (length vector) (λ j. number_at N run (at + j))
+      → AllStored N (length vector) (number_at N vector)
+      → Says N (dotted run at vector) r
 
-  -- the second vector of a strip is n rows of a run from a place on times the first vector that it had, if all their numbers are stored
-  abbrev pub RowsStand : List K → ℕ → ℕ → List K → List K → Result (Unit {0}) Fault → Type 0
-  RowsStand run at n was strip r =
-      ((i : ℕ) → i < n → AllStored N n (λ j. number_at N run (at + i * n + j)))
-      → AllStored N n (number_at N was)
-      → Stands n (rows N n (λ i. dotted run (at + i * n) was n)) (second strip) r
+  -- as many rows of a run from a place on as the vector has numbers stand there, each times the vector, if all their numbers are stored
+  abbrev pub RowsStand : List K → ℕ → List K → List K → Result (Unit {0}) Fault → Type 0
+  RowsStand run at vector there r =
+      ((i : ℕ) → i < length vector → AllStored N (length vector) (λ j. number_at N run (at + i * length vector + j)))
+      → AllStored N (length vector) (number_at N vector)
+      → Stands (length vector) (rows N (length vector) (λ i. dotted run (at + i * length vector) vector)) (number_at N there) r
 
-  -- the first vector of a strip is the steps of an event times the first vector that it had, if all their numbers are stored
-  abbrev pub StepsStand : List K → ℕ → ℕ → List K → List K → Result (Unit {0}) Fault → Type 0
-  StepsStand run n e was strip r =
-      ((i : ℕ) → i < n → AllStored N n (λ j. number_at N run (step_at n e i j)))
-      → AllStored N n (number_at N was)
-      → Stands n (stepped N n (value N run) e (value N was)) (number_at N strip) r
+  -- a vector is the steps of an event times the vector that it was, if all their numbers are stored
+  abbrev pub StepsStand : List K → ℕ → List K → List K → Result (Unit {0}) Fault → Type 0
+  StepsStand run e was new r =
+      ((i : ℕ) → i < length was → AllStored N (length was) (λ j. number_at N run (step_at (length was) e i j)))
+      → AllStored N (length was) (number_at N was)
+      → Stands (length was) (stepped N (length was) (value N run) e (value N was)) (number_at N new) r
 
   -- r is what the path of a word gives, if all numbers that it reads are stored
   abbrev pub PathSays : ℕ → List K → List ℕ → Result K Fault → Type 0

@@ -1,69 +1,72 @@
 //! How many events a book and how many states a table may have, and how many numbers that makes.
 ghost use Rattle.std.specs.Prelude.{◌≡◌, ◌≤◌, true, Ok, Err, MatchResult};
 ghost use Rattle.tables.specs.Sizes.{rows_right};
-ghost use Rattle.tables.specs.Shape.{most_events, most_states, events_answer, states_answer, table_size};
+ghost use Rattle.tables.specs.Shape.{most_events, most_states, passed_to, events_answer, states_answer, table_size};
 
 use kinds::fault::{Fault, Refusal};
 
-/// The most events of a book, and the most states of a table.
-const MOST_EVENTS: usize = 6;
+/// The most events of a book.
+pub const MOST_EVENTS: usize = 6;
 
-pub(crate) const MOST_STATES: usize = 8;
+/// The most states of a table.
+pub const MOST_STATES: usize = 8;
 
-/// The events of a book: 1 to 6.
+/// A count of 1 to a limit.
 #[derive(Clone, Copy)]
-pub struct Events {
+pub struct OneTo<const MOST: usize> {
     count: usize,
     ghost some: { 1 ≤ count },
-    ghost few: { count ≤ most_events },
+    ghost few: { count ≤ MOST },
 }
 
-impl Events {
+/// The events of a book: 1 to 6.
+pub type Events = OneTo<MOST_EVENTS>;
+
+/// The states of a table: 1 to 8.
+pub type States = OneTo<MOST_STATES>;
+
+impl<const MOST: usize> OneTo<MOST> {
+    /// So many, or the refusal where they are not 1 to the limit.
+    fn passed(count: usize, refusal: Refusal) -> Result<OneTo<MOST>, Fault>
+        ensures { MatchResult result (λ n. passed_to MOST refusal count ≡ Ok n.count) (λ f. passed_to MOST refusal count ≡ Err f) }
+    {
+        if count < 1 || count > MOST {
+            return Err(Fault::of(refusal));
+        }
+        Ok(OneTo { count })
+    }
+
+    /// How many.
+    pub fn count(self) -> usize
+        ensures { result ≡ self.entry.count }
+    {
+        self.count
+    }
+}
+
+impl OneTo<MOST_EVENTS> {
     /// So many events, or a refusal where they are not 1 to 6.
     pub fn new(count: usize) -> Result<Events, Fault>
         ensures { MatchResult result (λ e. events_answer count ≡ Ok e.count) (λ f. events_answer count ≡ Err f) }
     {
-        if count < 1 || count > MOST_EVENTS {
-            return Err(Fault::of(Refusal::EventCount));
-        }
-        Ok(Events { count })
-    }
-
-    /// How many events.
-    pub fn count(self) -> usize
-        ensures { result ≡ self.count }
-    {
-        let Events { count } = self;
-        count
+        OneTo::passed(count, Refusal::EventCount)
     }
 }
 
-/// The states of a table: 1 to 8.
-#[derive(Clone, Copy)]
-pub struct States {
-    count: usize,
-    ghost some: { 1 ≤ count },
-    ghost few: { count ≤ most_states },
-}
-
-impl States {
+impl OneTo<MOST_STATES> {
     /// So many states, or a refusal where they are not 1 to 8.
     pub fn new(count: usize) -> Result<States, Fault>
         ensures { MatchResult result (λ s. states_answer count ≡ Ok s.count) (λ f. states_answer count ≡ Err f) }
     {
-        if count < 1 || count > MOST_STATES {
-            return Err(Fault::of(Refusal::StateCount));
-        }
-        Ok(States { count })
+        OneTo::passed(count, Refusal::StateCount)
     }
+}
 
-    /// How many states.
-    pub fn count(self) -> usize
-        ensures { result ≡ self.count }
-    {
-        let States { count } = self;
-        count
-    }
+/// A table: its states, and the run of its numbers, which reads as zero past its end.
+#[derive(Clone, Copy)]
+pub struct Table<'a, K> {
+    pub states: States,
+    pub run: &'a [K],
 }
 
 /// How many numbers a table has: a row for each count of states, and in it a number for each count of events.

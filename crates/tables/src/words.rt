@@ -27,8 +27,7 @@ pub fn letter_of(event: u8) -> u8
 fn is_event(events: Events, byte: u8) -> bool
     ensures { result ≡ is_event events.count byte }
 {
-    let event = event_of(byte);
-    1 <= event && event <= events.count()
+    (1..=events.count()).contains(&event_of(byte))
 }
 
 /// The place, counted from 1, of the first byte that is no event of the book.
@@ -36,6 +35,7 @@ pub fn first_stray(events: Events, word: &[u8]) -> Option<usize>
     ensures value { result ≡ first_stray events.count 1 word.now }
     ensures first { MatchOption result (AllEvents events.count word.now) (λ p. FirstStray events.count word.now p) }
 {
+    // Tried as `position` and `map`: the check leaves the goal, that of `position` alone it finds.
     for (i, byte) in word.iter().enumerate() {
         if !is_event(events, *byte) {
             return Some(i + 1);

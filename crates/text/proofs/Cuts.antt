@@ -1,27 +1,27 @@
 -- How a line's fields follow from the place of its first comma.
 use Rattle.std.proofs.Common.{◌≡◌, ℕ, zero, suc, ◌<◌, Bool, true, false, cond, eqb, List, [], ◌∷◌, length, get_or, take, drop, sym, refl, ap, ◌∙◌, arith, eq-eqb, ne_eqb, eqb-true}
-use Rattle.std.specs.List.{AllByRecursion}
+use Rattle.std.specs.List.{AllByRecursion, AllWithin}
 use Rattle.text.specs.Split.{split, onto, joined, AreFieldsOf}
 
--- no comma below n
-abbrev Clear : List ℕ → ℕ → Type 0
-Clear s n = (k : ℕ) → k < n → get_or s k 0 ≡ 44 → ⊥
+-- no byte m stands below n
+abbrev pub Clear : ℕ → List ℕ → ℕ → Type 0
+Clear m s n = AllWithin (λ b. b ≡ m → ⊥) s 0 n
 
 -- without a comma a line is one field
-pub one_field : (s : List ℕ) → Clear s (length s) → split s ≡ s ∷ []
+pub one_field : (s : List ℕ) → Clear 44 s (length s) → split s ≡ s ∷ []
 one_field [] h = refl
 one_field (b ∷ bs) h =
-    let off : eqb b 44 ≡ false = ne_eqb b 44 (h 0 (omega arith)) in
-    let rest : split bs ≡ bs ∷ [] = one_field bs (λ k lt. h (suc k) (omega arith)) in
+    let off : eqb b 44 ≡ false = ne_eqb b 44 (h 0 0 (omega arith) (omega arith)) in
+    let rest : split bs ≡ bs ∷ [] = one_field bs (λ k d low lt. h (suc k) d (omega arith) (omega arith)) in
     rw (off, rest)
 
 -- with a first comma at n, the front is a field and the fields of the rest follow
-pub first_field : (s : List ℕ) (n : ℕ) → n < length s → Clear s n → get_or s n 0 ≡ 44 → split s ≡ take n s ∷ split (drop (suc n) s)
-first_field [] n lt h is = absurd (omega arith)
-first_field (b ∷ bs) zero lt h is = rw (eq-eqb b 44 is)
-first_field (b ∷ bs) (suc n) lt h is =
-    let off : eqb b 44 ≡ false = ne_eqb b 44 (h 0 (omega arith)) in
-    let rest : split bs ≡ take n bs ∷ split (drop (suc n) bs) = first_field bs n (omega arith) (λ k less. h (suc k) (omega arith)) is in
+pub first_field : (s : List ℕ) (n : ℕ) → n < length s → get_or s n 0 ≡ 44 → Clear 44 s n → split s ≡ take n s ∷ split (drop (suc n) s)
+first_field [] n lt is h = absurd (omega arith)
+first_field (b ∷ bs) zero lt is h = rw (eq-eqb b 44 is)
+first_field (b ∷ bs) (suc n) lt is h =
+    let off : eqb b 44 ≡ false = ne_eqb b 44 (h 0 0 (omega arith) (omega arith)) in
+    let rest : split bs ≡ take n bs ∷ split (drop (suc n) bs) = first_field bs n (omega arith) is (λ k d low less. h (suc k) d (omega arith) (omega arith)) in
     rw (off, rest)
 
 -- ---- the fields make up the line again

@@ -1,16 +1,17 @@
 -- A number is read from exactly the text that it prints as.
-use Rattle.std.proofs.Common.{◌≡◌, ℕ, zero, suc, ◌+◌, ◌-◌, ◌*◌, ◌<◌, ◌≤◌, Bool, true, false, cond, ◌&&◌, eqb, leb, List, [], ◌∷◌, length, get_or, drop, ℤ, pos, negsuc, nat_abs, Some, None, decimal, Option, sym, refl, ap, ◌∙◌, subst, ⊎_elim, arith, rules, eq-eqb, ne_eqb, le-leb, leb-true}
+use Rattle.std.proofs.Common.{◌≡◌, ℕ, zero, suc, ◌+◌, ◌-◌, ◌*◌, ◌^◌, ◌<◌, ◌≤◌, Bool, true, false, cond, ◌&&◌, eqb, leb, List, [], ◌∷◌, length, get_or, drop, ℤ, pos, negsuc, nat_abs, Some, None, decimal, Option, sym, refl, ap, ◌∙◌, subst, ⊎_elim, arith, rules, eq-eqb, ne_eqb, le-leb, leb-true}
+use native.Mathlib.Nat.{pow-le-pow_right}
 use borrow.Author.Tests.{eqb-false}
 use Rattle.std.proofs.lemmas.Bool.{cases_eq, cases_lt, lt-leb}
 use Rattle.std.proofs.lemmas.Str.Parse.{IsNumeralModel, numerals_by_fold, digits_value_short}
 use Rattle.std.proofs.lemmas.Fmt.{decimal-digits_value, digits_decimal, digits_value-decimal, length-decimal-le, decimal_nonempty, first_decimal, decimal_digit}
 use Rattle.std.specs.Char.{is_ascii_digit}
 use Rattle.std.specs.Fmt.{signed_decimal}
+use Rattle.std.specs.Option.{option_map, option_and_then}
 use Rattle.std.specs.Str.{all_ascii_digits}
 use Rattle.text.specs.declared.numbers.Mark.TheVariants as mark
 use Rattle.text.specs.declared.numbers.Reading.{Reading}
 use Rattle.text.specs.declared.numbers.Reading.TheVariants as reading
-use Rattle.text.proofs.Digits.{reading_minus}
 use Rattle.text.specs.Numerals.{most_magnitude, mark_of, step, further, magnitude_of, unsigned, negative, reading_of, IsNumeral, IsReading}
 
 -- the number that digits write behind n
@@ -64,13 +65,16 @@ pub record Shaped (s : List ℕ) : Type 0 where
   pub few : length s ≤ 6
   pub lead : get_or s 0 0 ≡ 48 → length s ≡ 1
 
-shaped_reads : (s : List ℕ) → Shaped s → magnitude_of s ≡ further 0 s
+pub shaped_reads : (s : List ℕ) → Shaped s → magnitude_of s ≡ further 0 s
 shaped_reads [] h = absurd (omega (arith, h.some))
 shaped_reads (b ∷ []) h = refl
 shaped_reads (b ∷ c ∷ bs) h =
     let off : eqb b 48 ≡ false = ne_eqb b 48 (λ e. let one = h.lead e in omega arith) in
     let few = h.few in
     rw (off, le-leb (length bs) 4 (omega arith))
+
+pub six_digits : (n i : ℕ) → i ≤ 6 → n < 10 ^ i → n < most_magnitude
+six_digits n i h hn = let p : 10 ^ i ≤ 10 ^ 6 = pow-le-pow_right (omega arith) h in omega arith
 
 reads_shaped : (s : List ℕ) (n : ℕ) → magnitude_of s ≡ Some n → Shaped s
 reads_shaped [] n e = let z : ◌≡◌ {A = ℕ} 0 1 = cc in absurd (omega arith)
@@ -86,7 +90,7 @@ digits_out : (t : Bool) (m n : ℕ) → cond t (Some m) None ≡ Some n → (t �
 digits_out true m n e = (refl, cc)
 digits_out false m n e = let z : ◌≡◌ {A = ℕ} 0 1 = cc in absurd (omega arith)
 
-pub numeral_law : (s : List ℕ) → IsNumeral s (magnitude_of s)
+numeral_law : (s : List ℕ) → IsNumeral s (magnitude_of s)
 numeral_law s = record { prints = prints; reads = reads }
   where
     prints : (n : ℕ) → magnitude_of s ≡ Some n → (s ≡ decimal n) × (n < most_magnitude)
@@ -113,65 +117,74 @@ numeral_law s = record { prints = prints; reads = reads }
         ∙ ap (λ t. cond t (Some (read_on 0 (decimal n))) None) (digits_decimal own n (omega arith))
         ∙ ap Some (digits_value-decimal own n (omega arith))
 
+-- what a text reads is told by what prints so
+pub numeral_is : (s : List ℕ) (r : Option ℕ) → r ≡ magnitude_of s → IsNumeral s r
+numeral_is s r is = subst (IsNumeral s) (sym is) (numeral_law s)
+
 -- ---- with a sign
-unsigned_out : (m : Option ℕ) (v : ℤ) → unsigned m ≡ reading.Number v → (n : ℕ) × ((m ≡ Some n) × (v ≡ pos n))
+unsigned_out : (m : Option ℕ) (v : ℤ) → option_map unsigned m ≡ Some (reading.Number v) → (n : ℕ) × ((m ≡ Some n) × (v ≡ pos n))
 unsigned_out (Some n) v e = (n, (refl, cc))
 unsigned_out None v e = let z : ◌≡◌ {A = ℕ} 0 1 = cc in absurd (omega arith)
 
 -- a number behind a minus sign that is not zero
-minus_some : (k : ℕ) → negative (Some (suc k)) ≡ reading.Number (negsuc k)
-minus_some k = ap (λ t. cond t reading.Malformed (reading.Number (negsuc k))) (ne_eqb (suc k) 0 (λ z. omega arith))
+minus_some : (k : ℕ) → negative (suc k) ≡ Some (reading.Number (negsuc k))
+minus_some k = ap (λ t. cond t None (Some (reading.Number (negsuc k)))) (ne_eqb (suc k) 0 (λ z. omega arith))
 
-negative_out : (m : Option ℕ) (v : ℤ) → negative m ≡ reading.Number v → (k : ℕ) × ((m ≡ Some (suc k)) × (v ≡ negsuc k))
+negative_out : (m : Option ℕ) (v : ℤ) → option_and_then negative m ≡ Some (reading.Number v) → (k : ℕ) × ((m ≡ Some (suc k)) × (v ≡ negsuc k))
 negative_out (Some zero) v e = let z : ◌≡◌ {A = ℕ} 0 1 = cc in absurd (omega arith)
-negative_out (Some (suc k)) v e = let same : reading.Number (negsuc k) ≡ reading.Number v = sym (minus_some k) ∙ e in (k, (refl, cc))
+negative_out (Some (suc k)) v e = let same : Some (reading.Number (negsuc k)) ≡ Some (reading.Number v) = sym (minus_some k) ∙ e in (k, (refl, cc))
 negative_out None v e = let z : ◌≡◌ {A = ℕ} 0 1 = cc in absurd (omega arith)
 
-no_hyphen_unsigned : (m : Option ℕ) → unsigned m ≡ reading.Hyphen → ⊥
+no_hyphen_unsigned : (m : Option ℕ) → option_map unsigned m ≡ Some reading.Hyphen → ⊥
 no_hyphen_unsigned (Some n) e = let z : ◌≡◌ {A = ℕ} 0 1 = cc in omega arith
 no_hyphen_unsigned None e = let z : ◌≡◌ {A = ℕ} 0 1 = cc in omega arith
 
-no_hyphen_negative : (m : Option ℕ) → negative m ≡ reading.Hyphen → ⊥
+no_hyphen_negative : (m : Option ℕ) → option_and_then negative m ≡ Some reading.Hyphen → ⊥
 no_hyphen_negative (Some zero) e = let z : ◌≡◌ {A = ℕ} 0 1 = cc in omega arith
 no_hyphen_negative (Some (suc k)) e = let same = sym (minus_some k) ∙ e in let z : ◌≡◌ {A = ℕ} 0 1 = cc in omega arith
 no_hyphen_negative None e = let z : ◌≡◌ {A = ℕ} 0 1 = cc in omega arith
 
 -- what a field whose reading is known looks like, by its first byte
 pub data Form (s : List ℕ) : Type 0 where
-  plain : reading_of s ≡ unsigned (magnitude_of s) → Form s
+  plain : reading_of s ≡ option_map unsigned (magnitude_of s) → Form s
   hyphen : s ≡ 45 ∷ [] → Form s
-  minus : (t : List ℕ) → s ≡ 45 ∷ t → reading_of s ≡ negative (magnitude_of t) → Form s
+  minus : (t : List ℕ) → s ≡ 45 ∷ t → reading_of s ≡ option_and_then negative (magnitude_of t) → Form s
 
 form : (s : List ℕ) → Form s
 form [] = plain refl
-form (b ∷ []) = ⊎_elim (λ e. hyphen (ap (λ c. c ∷ []) e)) (λ n. plain (ap (λ t. cond t reading.Hyphen (unsigned (magnitude_of (b ∷ [])))) (ne_eqb b 45 n))) (cases_eq b 45)
+form (b ∷ []) = ⊎_elim (λ e. hyphen (ap (λ c. c ∷ []) e)) (λ n. plain (ap (λ t. cond t (Some reading.Hyphen) (option_map unsigned (magnitude_of (b ∷ [])))) (ne_eqb b 45 n))) (cases_eq b 45)
 form (b ∷ c ∷ bs) =
     ⊎_elim
-    (λ e. minus (c ∷ bs) (ap (λ x. x ∷ c ∷ bs) e) (ap (λ t. cond t (negative (magnitude_of (c ∷ bs))) (unsigned (magnitude_of (b ∷ c ∷ bs)))) (eq-eqb b 45 e)))
-    (λ n. plain (ap (λ t. cond t (negative (magnitude_of (c ∷ bs))) (unsigned (magnitude_of (b ∷ c ∷ bs)))) (ne_eqb b 45 n)))
+    (λ e. minus (c ∷ bs) (ap (λ x. x ∷ c ∷ bs) e) (ap (λ t. cond t (option_and_then negative (magnitude_of (c ∷ bs))) (option_map unsigned (magnitude_of (b ∷ c ∷ bs)))) (eq-eqb b 45 e)))
+    (λ n. plain (ap (λ t. cond t (option_and_then negative (magnitude_of (c ∷ bs))) (option_map unsigned (magnitude_of (b ∷ c ∷ bs)))) (ne_eqb b 45 n)))
     (cases_eq b 45)
 
 -- a printed number does not begin with a hyphen
 first_digit : (n : ℕ) → n < most_magnitude → (t : List ℕ) → decimal n ≡ 45 ∷ t → ⊥
 first_digit n h t e = ⊎_elim (λ z. let f = decimal_digit 0 (omega arith) in let g = sym (ap decimal z) ∙ e in let b : 45 ≡ 48 = ap (λ l. get_or l 0 0) (sym g ∙ f) in omega arith) (λ z. let f = first_decimal n (omega arith) (omega arith) in let b : get_or (decimal n) 0 0 ≡ 45 = ap (λ l. get_or l 0 0) e in omega arith) (cases_eq n 0)
 
+reading_minus : (s : List ℕ) → 1 < length s → get_or s 0 0 ≡ 45 → reading_of s ≡ option_and_then negative (magnitude_of (drop 1 s))
+reading_minus [] lt e = absurd (omega arith)
+reading_minus (b ∷ []) lt e = absurd (omega arith)
+reading_minus (b ∷ c ∷ bs) lt e = rw (eq-eqb b 45 e)
+
 module _ (s : List ℕ) where
-  prints_v : (v : ℤ) → reading_of s ≡ reading.Number v → (s ≡ signed_decimal v) × (nat_abs v < most_magnitude)
+  prints_v : (v : ℤ) → reading_of s ≡ Some (reading.Number v) → (s ≡ signed_decimal v) × (nat_abs v < most_magnitude)
   prints_v v e = elim (form s) [
     | plain r ↦
         let out = unsigned_out (magnitude_of s) v (sym r ∙ e) in
         let law = (numeral_law s).prints out.0 out.1.0 in
         subst (λ x. (s ≡ signed_decimal x) × (nat_abs x < most_magnitude)) (sym out.1.1) law
-    | hyphen h ↦ let no : reading.Hyphen ≡ reading.Number v = sym (ap reading_of h) ∙ e in let z : ◌≡◌ {A = ℕ} 0 1 = cc in absurd (omega arith)
+    | hyphen h ↦ let no : Some reading.Hyphen ≡ Some (reading.Number v) = sym (ap reading_of h) ∙ e in let z : ◌≡◌ {A = ℕ} 0 1 = cc in absurd (omega arith)
     | minus t h r ↦
         let out = negative_out (magnitude_of t) v (sym r ∙ e) in
         let law = (numeral_law t).prints (suc out.0) out.1.0 in
         subst (λ x. (s ≡ signed_decimal x) × (nat_abs x < most_magnitude)) (sym out.1.1) (h ∙ ap (λ l. 45 ∷ l) law.0, law.1)
   ]
 
-  reads_v : (v : ℤ) → s ≡ signed_decimal v → nat_abs v < most_magnitude → reading_of s ≡ reading.Number v
+  reads_v : (v : ℤ) → s ≡ signed_decimal v → nat_abs v < most_magnitude → reading_of s ≡ Some (reading.Number v)
   reads_v (pos n) e small = elim (form s) [
-    | plain r ↦ r ∙ ap unsigned ((numeral_law s).reads n e small)
+    | plain r ↦ r ∙ ap (option_map unsigned) ((numeral_law s).reads n e small)
     | hyphen h ↦ absurd (first_digit n small [] (sym e ∙ h))
     | minus t h r ↦ absurd (first_digit n small t (sym e ∙ h))
   ]
@@ -179,10 +192,10 @@ module _ (s : List ℕ) where
       let some : 0 < length (decimal (suc k)) = decimal_nonempty (suc k) (omega arith) in
       let long : 1 < length s = omega (arith, ap length e) in
       reading_minus s long (ap (λ l. get_or l 0 0) e)
-      ∙ ap negative ((numeral_law (drop 1 s)).reads (suc k) (ap (drop 1) e) small)
+      ∙ ap (option_and_then negative) ((numeral_law (drop 1 s)).reads (suc k) (ap (drop 1) e) small)
       ∙ minus_some k
 
-  is_hyphen : reading_of s ≡ reading.Hyphen → s ≡ 45 ∷ []
+  is_hyphen : reading_of s ≡ Some reading.Hyphen → s ≡ 45 ∷ []
   is_hyphen e = elim (form s) [
     | plain r ↦ absurd (no_hyphen_unsigned (magnitude_of s) (sym r ∙ e))
     | hyphen h ↦ h
@@ -190,5 +203,5 @@ module _ (s : List ℕ) where
   ]
 
 -- what a field reads as is told by what prints so
-pub reading_law : (s : List ℕ) (r : Reading) → r ≡ reading_of s → IsReading s r
+pub reading_law : (s : List ℕ) (r : Option Reading) → r ≡ reading_of s → IsReading s r
 reading_law s r is = subst (IsReading s) (sym is) (record { prints = prints_v s; reads = reads_v s; hyphen = is_hyphen s; hyphen_reads = λ e. ap reading_of e })

@@ -1,10 +1,11 @@
 -- What is kept of a line while it arrives in pieces.
-use Rattle.std.proofs.Common.{◌≡◌, ℕ, zero, suc, ◌+◌, ◌-◌, ◌<◌, ◌≤◌, min, Bool, true, false, cond, eqb, List, [], ◌∷◌, ◌++◌, map, length, get_or, take, drop, Some, None, sym, refl, ap, ◌∙◌, ⊎_elim, append_assoc, append-nil, arith, length-append, length-take, eq-eqb, ne_eqb, le-leb}
-use Rattle.std.proofs.lemmas.List.{take_all, take-take, take_more, drop_more}
+use Rattle.std.proofs.Common.{◌≡◌, ℕ, zero, suc, ◌+◌, ◌-◌, ◌<◌, ◌≤◌, min, Bool, true, false, cond, eqb, List, [], ◌∷◌, ◌++◌, map, length, get_or, take, drop, Some, None, Option, sym, refl, ap, ◌∙◌, ⊎_elim, append_assoc, append-nil, arith, length-append, length-take, eq-eqb, ne_eqb, le-leb}
+use Rattle.std.proofs.lemmas.List.{take_all, take-take, take_more}
 use Rattle.std.proofs.lemmas.Bool.{cases_lt, lt-leb}
-use Rattle.std.specs.Option.{option_map}
+use Rattle.std.specs.Option.{option_map, unwrap_or}
 use Rattle.text.specs.Split.{onto}
-use Rattle.text.specs.Input.{most_bytes, lines_of, before_feed, text_of, kept, texts_from, span, ends, KeepingIsEnough, SameTexts}
+use Rattle.text.proofs.Cuts.{Clear}
+use Rattle.text.specs.Input.{most_bytes, lines_of, before_feed, text_of, kept, texts_from, span, ends, EndsAt, KeepingIsEnough, SameTexts}
 
 -- ---- cutting twice is cutting once
 take_front : (m : ℕ) (a x : List ℕ) → take m (take m a ++ x) ≡ take m (a ++ x)
@@ -26,18 +27,24 @@ cut_after (b ∷ was) piece zero u n le is = absurd (omega arith)
 cut_after (b ∷ was) piece (suc m) u n le is = ap (λ l. b ∷ l) (cut_after was piece m u n (omega arith) (omega arith))
 
 -- ---- a piece is read to its line feed
-module _ (piece : List ℕ) (i : ℕ) (inside : i < length piece) where
-  pub span_on : (get_or piece i 0 ≡ 10 → ⊥) → span (drop i piece) ≡ suc (span (drop (i + 1) piece))
-  span_on h = ap span (drop_more piece i 0 inside) ∙ ap (λ t. cond t 1 (suc (span (drop (i + 1) piece)))) (ne_eqb (get_or piece i 0) 10 h)
+pub goes_on : (s : List ℕ) → Clear 10 s (length s) → (ends s ≡ false) × (span s ≡ length s)
+goes_on [] h = (refl, refl)
+goes_on (b ∷ s) h =
+    let off : eqb b 10 ≡ false = ne_eqb b 10 (h 0 0 (omega arith) (omega arith)) in
+    let rest = goes_on s (λ k d low lt. h (suc k) d (omega arith) (omega arith)) in
+    rw off (rest.0, ap suc rest.1)
 
-  pub ends_on : (get_or piece i 0 ≡ 10 → ⊥) → ends (drop i piece) ≡ ends (drop (i + 1) piece)
-  ends_on h = ap ends (drop_more piece i 0 inside) ∙ ap (λ t. cond t true (ends (drop (i + 1) piece))) (ne_eqb (get_or piece i 0) 10 h)
+pub ends_behind : (s : List ℕ) (n : ℕ) → n < length s → get_or s n 0 ≡ 10 → Clear 10 s n → (ends s ≡ true) × (span s ≡ n + 1)
+ends_behind [] n lt is h = absurd (omega arith)
+ends_behind (b ∷ s) zero lt is h = rw (eq-eqb b 10 is) (refl, refl)
+ends_behind (b ∷ s) (suc n) lt is h =
+    let off : eqb b 10 ≡ false = ne_eqb b 10 (h 0 0 (omega arith) (omega arith)) in
+    let rest = ends_behind s n (omega arith) is (λ k d low less. h (suc k) d (omega arith) (omega arith)) in
+    rw off (rest.0, omega (arith, rest.1))
 
-  pub span_here : get_or piece i 0 ≡ 10 → span (drop i piece) ≡ 1
-  span_here h = ap span (drop_more piece i 0 inside) ∙ ap (λ t. cond t 1 (suc (span (drop (i + 1) piece)))) (eq-eqb (get_or piece i 0) 10 h)
-
-  pub ends_here : get_or piece i 0 ≡ 10 → ends (drop i piece) ≡ true
-  ends_here h = ap ends (drop_more piece i 0 inside) ∙ ap (λ t. cond t true (ends (drop (i + 1) piece))) (eq-eqb (get_or piece i 0) 10 h)
+pub used_is : (piece : List ℕ) (end : Option ℕ) → EndsAt piece end → unwrap_or end (length piece) ≡ span piece
+used_is piece (Some n) h = sym h.1
+used_is piece None h = sym h.1
 
 -- ---- the text of a line
 pub before_feed_push : (t : List ℕ) (b : ℕ) → before_feed (t ++ (b ∷ [])) ≡ cond (eqb b 10) (Some t) None

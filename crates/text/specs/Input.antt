@@ -41,6 +41,11 @@ abbrev pub ends : List ℕ → Bool
 ends [] = false
 ends (b ∷ s) = cond (b == 10) true (ends s)
 
+-- so many bytes of a piece end the line; or none do, and all belong to it
+abbrev pub EndsAt : List ℕ → Option ℕ → Type 0
+EndsAt piece (Some n) = (ends piece ≡ true) × (span piece ≡ n)
+EndsAt piece None = (ends piece ≡ false) × (span piece ≡ length piece)
+
 -- whatever an input is, its lines come out of it one by one, though no more than their first bytes are kept
 abbrev pub KeepingIsEnough : Type 0
 KeepingIsEnough = (input : List ℕ) → texts_from [] input ≡ map text_of (lines_of input)

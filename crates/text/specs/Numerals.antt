@@ -1,6 +1,7 @@
 -- How numbers are written: up to six digits that begin with no needless zero, and before a number other than 0 a minus sign at will.
 use Rattle.std.specs.Prelude.{◌≡◌, ℕ, ◌+◌, ◌-◌, ◌*◌, ◌<◌, cond, List, [], ◌∷◌, length, ℤ, pos, neg_ℤ, Some, None, Ok, Err, decimal, Option, Result, ◌==◌, nat_le, unsigned_abs}
 use Rattle.std.specs.Fmt.{signed_decimal}
+use Rattle.std.specs.Option.{option_map, option_and_then}
 use Rattle.kinds.specs.declared.fault.Fault.{Fault}
 use Rattle.kinds.specs.declared.fault.Refusal.TheVariants.{FieldForm}
 use Rattle.kinds.specs.Faults.{fault_at}
@@ -35,22 +36,23 @@ magnitude_of [] = None
 magnitude_of (b ∷ []) = further 0 (b ∷ [])
 magnitude_of (b ∷ c ∷ bs) = cond (b == 48) None (cond (nat_le (length bs) 4) (further 0 (b ∷ c ∷ bs)) None)
 
-abbrev pub unsigned : Option ℕ → Reading
-unsigned (Some n) = reading.Number (pos n)
-unsigned None = reading.Malformed
+-- a number without a sign
+abbrev pub unsigned : ℕ → Reading
+unsigned n = reading.Number (pos n)
 
-abbrev pub negative : Option ℕ → Reading
-negative (Some n) = cond (n == 0) reading.Malformed (reading.Number (neg_ℤ (pos n)))
-negative None = reading.Malformed
+-- a number behind a minus sign, unless it is zero
+abbrev pub negative : ℕ → Option Reading
+negative n = cond (n == 0) None (Some (reading.Number (neg_ℤ (pos n))))
 
 -- a hyphen alone, a minus sign with a number other than zero, or a number
-abbrev pub reading_of : List ℕ → Reading
-reading_of [] = reading.Malformed
-reading_of (b ∷ []) = cond (b == 45) reading.Hyphen (unsigned (magnitude_of (b ∷ [])))
-reading_of (b ∷ c ∷ bs) = cond (b == 45) (negative (magnitude_of (c ∷ bs))) (unsigned (magnitude_of (b ∷ c ∷ bs)))
+abbrev pub reading_of : List ℕ → Option Reading
+reading_of [] = None
+reading_of (b ∷ []) = cond (b == 45) (Some reading.Hyphen) (option_map unsigned (magnitude_of (b ∷ [])))
+reading_of (b ∷ c ∷ bs) = cond (b == 45) (option_and_then negative (magnitude_of (c ∷ bs))) (option_map unsigned (magnitude_of (b ∷ c ∷ bs)))
 
-abbrev pub or_other_form : Option ℕ → ℕ → Result ℕ Fault
-or_other_form (Some n) p = Ok n
+-- what a field at a place means, unless it has not the form for it
+abbrev pub or_other_form : {A : Type 0} → Option A → ℕ → Result A Fault
+or_other_form (Some a) p = Ok a
 or_other_form None p = Err (fault_at FieldForm p)
 
 -- the number without a sign in the field at a place
@@ -63,8 +65,8 @@ pub record IsNumeral (s : List ℕ) (r : Option ℕ) : Type 0 where
   pub reads : (n : ℕ) → s ≡ decimal n → n < most_magnitude → r ≡ Some n
 
 -- a field reads as the whole number v exactly when it is what v prints as, of at most six digits; and as a hyphen exactly when it is one
-pub record IsReading (s : List ℕ) (r : Reading) : Type 0 where
-  pub prints : (v : ℤ) → r ≡ reading.Number v → (s ≡ signed_decimal v) × (unsigned_abs v < most_magnitude)
-  pub reads : (v : ℤ) → s ≡ signed_decimal v → unsigned_abs v < most_magnitude → r ≡ reading.Number v
-  pub hyphen : r ≡ reading.Hyphen → s ≡ 45 ∷ []
-  pub hyphen_reads : s ≡ 45 ∷ [] → r ≡ reading.Hyphen
+pub record IsReading (s : List ℕ) (r : Option Reading) : Type 0 where
+  pub prints : (v : ℤ) → r ≡ Some (reading.Number v) → (s ≡ signed_decimal v) × (unsigned_abs v < most_magnitude)
+  pub reads : (v : ℤ) → s ≡ signed_decimal v → unsigned_abs v < most_magnitude → r ≡ Some (reading.Number v)
+  pub hyphen : r ≡ Some reading.Hyphen → s ≡ 45 ∷ []
+  pub hyphen_reads : s ≡ 45 ∷ [] → r ≡ Some reading.Hyphen

@@ -1,7 +1,7 @@
 //! Input that arrives in pieces, cut into lines in bounded memory.
-ghost use Rattle.std.specs.Prelude.{◌≡◌, ◌+◌, ◌≤◌, not, [], ◌∷◌, ◌++◌, length, take, IfOk, if◌then◌else◌, vec_len, MatchResult, OnOk, ◌==◌};
+ghost use Rattle.std.specs.Prelude.{◌≡◌, ◌+◌, ◌≤◌, not, [], ◌∷◌, ◌++◌, length, take, IfOk, IfSome, if◌then◌else◌, vec_len, MatchResult, OnOk, ◌==◌};
 ghost use Rattle.std.specs.Option.{option_map};
-ghost use Rattle.text.specs.Input.{most_bytes, text_of, texts_from, kept, span, ends, KeepingIsEnough, SameTexts};
+ghost use Rattle.text.specs.Input.{most_bytes, text_of, texts_from, kept, span, EndsAt, KeepingIsEnough, SameTexts};
 
 use std::alloc::{AllocError, Global};
 
@@ -15,35 +15,17 @@ pub struct LineBuffer {
     ghost within: { vec_len bytes ≤ most_bytes + 1 },
 }
 
-/// How many bytes of a piece belong to the line, and whether they end it.
-#[derive(Clone, Copy)]
-pub struct Taken {
-    pub used: usize,
-    pub ended: bool,
-}
-
-/// The bytes of a piece up to its first line feed, or all of it.
-fn up_to_feed(piece: &[u8]) -> Taken
-    ensures used { result.used ≡ span piece.now }
-    ensures ended { result.ended ≡ ends piece.now }
-    ensures within { result.used ≤ length piece.now }
+/// How many bytes of a piece stand up to its first line feed, if it has one.
+fn up_to_feed(piece: &[u8]) -> Option<usize>
+    ensures value { EndsAt piece.now result }
+    ensures within { IfSome result (λ n. n ≤ length piece.now) }
 {
-    for (i, b) in piece.iter().enumerate() {
-        if *b == b'\n' {
-            return Taken {
-                used: i + 1,
-                ended: true,
-            };
-        }
-    }
-    Taken {
-        used: piece.len(),
-        ended: false,
-    }
+    Some(piece.iter().position(|b| *b == b'\n')? + 1)
 }
 
 impl LineBuffer {
     /// A buffer in which no line has begun.
+    #[tactic(auto, using(crate::proofs::Pieces::keeping_is_enough))]
     pub fn new(heap: Global) -> LineBuffer
         ensures empty { result.bytes.items ≡ [] }
         ensures keeping_is_enough { KeepingIsEnough }
@@ -60,17 +42,18 @@ impl LineBuffer {
         self.bytes.clear();
     }
 
-    /// Takes from a piece of the input what belongs to the line; for want of memory nothing is taken.
-    pub fn take(&mut self, piece: &[u8]) -> Result<Taken, AllocError>
-        ensures value { IfOk result (λ t. (t.used ≡ span piece.now) × (t.ended ≡ ends piece.now)) }
-        ensures held { MatchResult result (λ t. self.new.bytes.items ≡ kept (self.old.bytes.items ++ take (span piece.now) piece.now)) (λ _. self.new.bytes.items ≡ self.old.bytes.items) }
+    /// Takes from a piece of the input what belongs to the line: so many bytes, which end it, or all bytes while it goes
+    /// on. For want of memory nothing is taken.
+    pub fn take(&mut self, piece: &[u8]) -> Result<Option<usize>, AllocError>
+        ensures value { IfOk result (EndsAt piece.now) }
+        ensures held { MatchResult result (λ _. self.new.bytes.items ≡ kept (self.old.bytes.items ++ take (span piece.now) piece.now)) (λ _. self.new.bytes.items ≡ self.old.bytes.items) }
         ensures same_texts { OnOk result (SameTexts self.old.bytes.items piece.now self.new.bytes.items) }
     {
-        let taken = up_to_feed(piece);
+        let end = up_to_feed(piece);
+        let used = end.unwrap_or(piece.len());
         let room = MOST_BYTES + 1 - self.bytes.len();
-        let n = taken.used.min(room);
-        self.bytes.extend_from_slice(&piece[0..n])?;
-        Ok(taken)
+        self.bytes.extend_from_slice(&piece[..used.min(room)])?;
+        Ok(end)
     }
 
     /// Whether a line has begun. At the end of the input it is the last one, which lacks its line feed.
@@ -82,6 +65,7 @@ impl LineBuffer {
     }
 
     /// The text of the line before its line feed, unless it lacks that or is too long.
+    #[tactic(auto, using(crate::proofs::Pieces::text_by_last))]
     pub fn text(&self) -> Option<&[u8]>
         ensures { option_map (λ x. x.now) result ≡ text_of self.now.bytes.items }
     {

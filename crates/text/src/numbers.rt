@@ -1,11 +1,12 @@
 //! Numbers as a line writes them.
 ghost use Rattle.std.specs.Prelude.{◌≡◌, ◌<◌, IfSome};
 ghost use Rattle.std.specs.Result.{result_ok};
-ghost use Rattle.text.specs.Numerals.{mark_of, magnitude_of, reading_of, unsigned, negative, most_magnitude, plain_at, IsNumeral, IsReading};
+ghost use Rattle.text.specs.Numerals.{mark_of, magnitude_of, reading_of, negative, most_magnitude, plain_at, IsNumeral, IsReading};
 
 use kinds::fault::{Fault, Refusal};
 
 /// What a byte is within a number.
+// Four cases of its own, and no `Option` for the last: the cases of the rule on reading numbers.
 #[derive(Clone, Copy)]
 enum Mark {
     Hyphen,
@@ -14,14 +15,14 @@ enum Mark {
     Other,
 }
 
-/// What a field is as a number: a whole number, a hyphen alone, or neither.
+/// What a field is as a number: a whole number, or a hyphen alone.
 #[derive(Clone, Copy)]
 pub enum Reading {
     Number(i64),
     Hyphen,
-    Malformed,
 }
 
+/// The mark that a byte is.
 fn mark_of(b: u8) -> Mark
     ensures { result ≡ mark_of b }
 {
@@ -58,45 +59,35 @@ pub fn magnitude(s: &[u8]) -> Option<u32>
     Some(n)
 }
 
-/// The reading of a magnitude without a sign.
-fn without_sign(n: Option<u32>) -> Reading
-    ensures { result ≡ unsigned n }
-{
-    match n {
-        Some(n) => Reading::Number(i64::from(n)),
-        None => Reading::Malformed,
-    }
-}
-
 /// The reading of a magnitude behind a minus sign.
-fn behind_minus(n: Option<u32>) -> Reading
+fn behind_minus(n: u32) -> Option<Reading>
     ensures { result ≡ negative n }
 {
-    match n {
-        Some(0) | None => Reading::Malformed,
-        Some(n) => Reading::Number(-i64::from(n)),
+    if n == 0 {
+        return None;
     }
+    Some(Reading::Number(-i64::from(n)))
 }
 
 /// A number with or without a minus sign, or a hyphen alone.
-pub fn read_number(field: &[u8]) -> Reading
+pub fn read_number(field: &[u8]) -> Option<Reading>
     ensures value { result ≡ reading_of field.now }
     ensures decimal_text { IsReading field.now result }
 {
     match field {
-        [b'-'] => Reading::Hyphen,
-        [b'-', rest @ ..] => behind_minus(magnitude(rest)),
-        digits => without_sign(magnitude(digits)),
+        [b'-'] => Some(Reading::Hyphen),
+        [b'-', rest @ ..] => magnitude(rest).and_then(behind_minus),
+        digits => magnitude(digits).map(|n| Reading::Number(i64::from(n))),
     }
 }
 
 /// The number without a sign in the field at a place.
+#[tactic(auto, using(crate::proofs::Decimals::numeral_is))]
 pub fn plain(field: &[u8], place: usize) -> Result<usize, Fault>
     ensures value { result ≡ plain_at field.now place }
     ensures decimal_text { IsNumeral field.now (result_ok result) }
 {
-    match magnitude(field) {
-        Some(n) => Ok(n as usize),
-        None => Err(Fault::at(Refusal::FieldForm, place)),
-    }
+    magnitude(field)
+        .map(|n| n as usize)
+        .ok_or(Fault::at(Refusal::FieldForm, place))
 }

@@ -4,7 +4,6 @@ use book::book::Book;
 use kinds::best::Best;
 use kinds::fault::Fault;
 use ledger::asking::Comparison;
-use std::test::Fail;
 use tables::shape::Events;
 
 // a state whose step costs 5
@@ -21,12 +20,6 @@ fn ask_closed() -> Result<Comparison, Fault> {
 }
 
 #[test]
-fn a_closed_book_is_asked(rt: HostRuntime) -> Result<(), Fail> {
-    match ask_closed() {
-        Ok(Comparison::Same) => Ok(()),
-        _ => {
-            assert!(rt; false);
-            Ok(())
-        },
-    }
+fn a_closed_book_is_asked(rt: HostRuntime) {
+    assert!(rt; matches!(ask_closed(), Ok(Comparison::Same)));
 }

@@ -16,7 +16,7 @@ use Rattle.ledger.specs.Standing.{unless_two_tables}
 use Rattle.ledger.proofs.Keeping.{not_two, two_pass, two_refused}
 use Rattle.ledger.proofs.Merging.{line_merged, merged_as_many, used_merged}
 use Rattle.uses.specs.Holds.{Entered, Table, part, table_at}
-use Rattle.uses.specs.Join.{AlikeInBook, Answered, EarlyJoin, Joined, JoinsExactly, TwoTables, join_fault, width, with_merged}
+use Rattle.uses.specs.Join.{Answered, Joined, JoinSays, TwoTables, join_fault, width, with_merged}
 
 -- what the check of a sheet says of two tables
 pub record SheetSays {K : Type 0} (N : Numbers K) (k : ℕ) (s t : Table K) (R : ℕ) (sheet : List K) (r : Result (Unit {0}) Fault) : Type 0 where
@@ -24,14 +24,6 @@ pub record SheetSays {K : Type 0} (N : Numbers K) (k : ℕ) (s t : Table K) (R :
   pub answer : AllEntries N s.run → AllEntries N t.run → Answers N k s.states s.run t.states t.run R sheet r
   pub exactly : AllEntries N s.run → AllEntries N t.run → AcceptsExactly N k s.states s.run t.states t.run R sheet r
   pub alike : AllEntries N s.run → AllEntries N t.run → r ≡ Ok tt → Alike N k s.states s.run t.states t.run R sheet
-
--- what the check of a join says
-pub record JoinSays {K : Type 0} (N : Numbers K) (m : Model) (shelf : List K) (a b R : ℕ) (sheet : List K) (r : Result (Unit {0}) Fault) : Type 0 where
-  pub early : EarlyJoin N m shelf a b R sheet r
-  pub answer : Entered N m shelf → Answered N m shelf a b R sheet r
-  pub exactly : Entered N m shelf → JoinsExactly N m shelf a b R sheet r
-  pub alike : Entered N m shelf → r ≡ Ok tt → AlikeInBook N m shelf a b R sheet
-  pub two : r ≡ Ok tt → TwoTables m a b
 
 has_of : (m : Model) (i : ℕ) → one_to (length m.lines) i ≡ true → Has m.lines i
 has_of m i e = let h = and_parts (leb 1 i) (leb i (length m.lines)) e in (leb-true 1 i h.0, leb-true i (length m.lines) h.1)

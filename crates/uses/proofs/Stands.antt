@@ -4,7 +4,7 @@ use Rattle.kinds.specs.Numbers.{Numbers}
 use Rattle.sheets.specs.Alike.{WordOver}
 use Rattle.ledger.specs.Lines.{Has, class_of, used}
 use Rattle.ledger.specs.Parts.{HasPart, Kept, part_of}
-use Rattle.ledger.proofs.Appending.{Sound}
+use Rattle.ledger.specs.Lines.{Sound}
 use Rattle.uses.specs.Calls.{Effect, State}
 use Rattle.uses.specs.History.{Joined, JoinedBy, Linked, opening, parts, table, tables}
 use Rattle.uses.specs.Holds.{Entered, Table, table_at}

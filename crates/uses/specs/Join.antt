@@ -10,7 +10,7 @@ use Rattle.ledger.specs.Classes.{merged}
 use Rattle.ledger.specs.Model.{Model}
 use Rattle.ledger.specs.Standing.{unless_table}
 use Rattle.ledger.specs.Standing as standing
-use Rattle.uses.specs.Holds.{table_at}
+use Rattle.uses.specs.Holds.{Entered, table_at}
 
 -- the classes of two tables as one
 abbrev pub with_merged : Model → ℕ → ℕ → Model
@@ -69,3 +69,11 @@ module _ {K : Type 0} (N : Numbers K) (m : Model) (shelf : List K) (a b R : ℕ)
   -- every word over the events weighs the same in the two tables that ledger and shelf hold
   abbrev pub AlikeInBook : Type 0
   AlikeInBook = Alike N m.events (table_at m shelf a).states (table_at m shelf a).run (table_at m shelf b).states (table_at m shelf b).run R sheet
+
+  -- what the check of a join says: whatever the tables hold, and where the book's numbers are entries
+  pub record JoinSays (r : Result (Unit {0}) Fault) : Type 0 where
+    pub early : EarlyJoin r
+    pub answer : Entered N m shelf → Answered r
+    pub exactly : Entered N m shelf → JoinsExactly r
+    pub alike : Entered N m shelf → r ≡ Ok tt → AlikeInBook
+    pub two : r ≡ Ok tt → TwoTables m a b

@@ -1,6 +1,7 @@
 //! What a call on a book answers.
 
 /// A word was kept: the part's number, and what the word weighs in its two tables.
+// The weights stand here one by one, and not as `Weights`: the definitions of what `part` answers name these fields.
 #[derive(Clone, Copy)]
 pub struct Parted<K> {
     pub part: usize,

@@ -1,33 +1,15 @@
-use Rattle.std.proofs.Common.{ℕ, ◌+◌, ◌*◌, ◌≤◌, length, pos, sym, ◌∙◌, mul-le-mul_right, arith}
-use Rattle.std.proofs.lemmas.List.{at_drop_all}
-use Rattle.kinds.specs.Count.{equal_whole}
-use Rattle.tables.specs.Firsts.{first_failing}
-use Rattle.tables.specs.Path.{listed}
-use Rattle.tables.proofs.Firsts.{first_later, first_here}
-use Rattle.chains.specs.Refusals.{sum_from}
-use Rattle.tables.proofs.Sums.{length_listed}
-use Rattle.chains.proofs.Places.{listed_stands}
+use Rattle.std.proofs.Common.{◌≡◌, ◌+◌, ◌<◌, ap, subst, ◌∙◌, arith, option_map, rules, tests}
+use Rattle.std.specs.Slice.Iter.{chunks_exact_rest, chunks_exact_size}
+use Rattle.std.specs.Iterator.Runs.{IsChunksExactRun}
+use Rattle.chains.proofs.Rows.{first_uneven_found}
 use Rattle.chains.proofs.checks.first_uneven.Goals as goal
 
-pub adds_up-requires : goal.adds_up-requires
-adds_up-requires c =
-    let under : c.loop-row.row ≤ c.args.rows = omega arith in
-    record { near = omega (arith, mul-le-mul_right c.args.width under, c.requires.size); few = c.requires.few; scale = c.requires.scale; bounded = c.requires.bounded }
-
-pub returns-then-not-adds_up : goal.returns-then-not-adds_up
-returns-then-not-adds_up c =
-    let sums = λ (b : ℕ). sum_from c.args.numbers.now (b * c.args.width) c.args.width in
-    let stands = listed_stands c.args.rows sums c.loop-row.row c.loop-row-test.true in
-    sym (first_here (λ s. equal_whole s (pos c.args.scale)) (listed c.args.rows sums) c.loop-row.row (sums c.loop-row.row) stands.0 stands.1 (sym c.if-not-adds_up.ensures)) ∙ c.loop-row.invariant
-
-pub loop-row-preserved : goal.loop-row-preserved
-loop-row-preserved c =
-    let sums = λ (b : ℕ). sum_from c.args.numbers.now (b * c.args.width) c.args.width in
-    let stands = listed_stands c.args.rows sums c.loop-row.row c.loop-row-test.true in
-    first_later (λ s. equal_whole s (pos c.args.scale)) (listed c.args.rows sums) c.loop-row.row (sums c.loop-row.row) stands.0 stands.1 (sym c.if-not-adds_up.ensures) ∙ c.loop-row.invariant
-
 pub returns : goal.returns
-returns c =
-    let sums = λ (b : ℕ). sum_from c.args.numbers.now (b * c.args.width) c.args.width in
-    let past : length (listed c.args.rows sums) ≤ c.loop-row.row = omega (arith, length_listed c.args.rows sums) in
-    sym (at_drop_all (first_failing (λ s. equal_whole s (pos c.args.scale)) (c.loop-row.row + 1)) (listed c.args.rows sums) c.loop-row.row past) ∙ c.loop-row.invariant
+returns c = λ m long.
+    let run = c.position.ensures.runs in
+    let size : chunks_exact_size run.0.from ≡ c.args.width = ap chunks_exact_size run.1 ∙ c.chunks_exact.ensures.size in
+    let rest : chunks_exact_rest run.0.from ≡ c.args.numbers.now = ap chunks_exact_rest run.1 ∙ c.chunks_exact.ensures.rest in
+    let some : 0 < chunks_exact_size run.0.from = omega (arith, c.requires, size) in
+    let rows : IsChunksExactRun run.0 c.args.width c.args.numbers.now = subst (λ xs. IsChunksExactRun run.0 c.args.width xs) rest (subst (λ m. IsChunksExactRun run.0 m (chunks_exact_rest run.0.from)) size (c.chunks_exact.ensures.runs run.0 run.0.seen some)) in
+    let mapped : c.map.result ≡ option_map (λ p. p + 1) c.position.result = search rules in
+    mapped ∙ first_uneven_found c.args.width m c.args.numbers.now c.args.scale c.requires long run.0 rows _ _ (λ a r f h. search rules) (λ x b h. search (rules, tests)) c.position.result run.2

@@ -5,4 +5,4 @@ use Rattle.tables.proofs.weighing.ends.Given as goal
 abbrev pub invariant-loop-i : goal.invariant-loop-i
 invariant-loop-i g l =
     let N = g.K.Kind.numbers in
-    (j : ℕ) → j < l.i → number_at N l.strip j ≡ number_at N l.run (end_at l.states j)
+    (j : ℕ) → j < l.i → number_at N l.vector j ≡ number_at N l.run (end_at l.states j)

@@ -1,12 +1,13 @@
-use Rattle.std.proofs.Common.{◌≡◌, drop, Ok}
+use Rattle.std.proofs.Common.{◌≡◌, ◌-◌, length, drop, Ok}
 use Rattle.tables.specs.Words.{events_of}
 use Rattle.tables.specs.Layout.{number_at, value, AllStored, Stored}
 use Rattle.tables.specs.Path.{listed, backward}
 use Rattle.tables.proofs.weighing.path.Given as goal
 
--- the strip's first vector is that of the word from i on
-abbrev pub invariant-loop-i : goal.invariant-loop-i
-invariant-loop-i g l =
+-- the vector is that of the word's last events, as many as were taken
+abbrev pub invariant-loop-byte : goal.invariant-loop-byte
+invariant-loop-byte g l =
     let N = g.K.Kind.numbers in
-    Stored N l.states l.run (events_of l.word)
-    → (backward N l.states (value N l.run) (events_of (drop l.i l.word)) ≡ Ok (listed l.states (value N l.strip))) × AllStored N l.states (number_at N l.strip)
+    let n = length l.fn.vector in
+    Stored N n l.run (events_of l.word)
+    → (backward N n (value N l.run) (events_of (drop (length l.word - length l.yielded) l.word)) ≡ Ok (listed n (value N l.vector))) × AllStored N n (number_at N l.vector)

@@ -1,28 +1,17 @@
-use Rattle.std.proofs.Common.{sym, ap, ◌∙◌, arith}
-use Rattle.std.proofs.lemmas.List.{drop_all}
-use Rattle.text.specs.Input.{span, ends}
-use Rattle.text.proofs.Pieces.{span_on, ends_on, span_here, ends_here}
+use Rattle.std.proofs.Common.{◌≡◌, arith, rules, tests}
+use Rattle.std.proofs.lemmas.Iterator.{IsFirst-from_position, YieldsList-from_slice}
+use Rattle.text.proofs.Pieces.{ends_behind, goes_on}
 use Rattle.text.proofs.input.up_to_feed.Goals as goal
 
-pub returns-then-b-eq10 : goal.returns-then-b-eq10
-returns-then-b-eq10 c =
-    let here = span_here c.args.piece.now c.loop-i.i c.loop-i-test.true c.if-b-eq10.true in
-    record {
-      used = omega (arith, c.loop-i.invariant.0, here);
-      ended = sym (c.loop-i.invariant.1 ∙ ends_here c.args.piece.now c.loop-i.i c.loop-i-test.true c.if-b-eq10.true);
-      within = omega arith;
-    }
-
-pub loop-i-preserved : goal.loop-i-preserved
-loop-i-preserved c =
-    let on = span_on c.args.piece.now c.loop-i.i c.loop-i-test.true c.if-b-eq10.false in
-    (omega (arith, c.loop-i.invariant.0, on), c.loop-i.invariant.1 ∙ ends_on c.args.piece.now c.loop-i.i c.loop-i-test.true c.if-b-eq10.false)
+pub returns-in_err-position : goal.returns-in_err-position
+returns-in_err-position c =
+    let s = c.args.piece.now in
+    let at = IsFirst-from_position _ _ _ (λ b. b ≡ 10) (λ b. b ≡ 10 → ⊥) c.position.ensures.ran (YieldsList-from_slice s c.iter.ensures.rest) (λ x q k. search (rules, tests)) (λ x q k. search (rules, tests)) in
+    rw c.from_residual.ensures (record { value = goes_on s (rw c.in_err-position.was at at); within = tt })
 
 pub returns : goal.returns
 returns c =
-    let past = drop_all c.loop-i.i c.args.piece.now c.loop-i-test.false in
-    record {
-      used = omega (arith, c.loop-i.invariant.0, ap span past);
-      ended = sym (c.loop-i.invariant.1 ∙ ap ends past);
-      within = omega arith;
-    }
+    let s = c.args.piece.now in
+    let at = IsFirst-from_position _ _ _ (λ b. b ≡ 10) (λ b. b ≡ 10 → ⊥) c.position.ensures.ran (YieldsList-from_slice s c.iter.ensures.rest) (λ x q k. search (rules, tests)) (λ x q k. search (rules, tests)) in
+    let first = rw c.in_ok-position.was at at in
+    record { value = ends_behind s c.in_ok-position.field-0 first.0 (first.1 0) first.2; within = omega (arith, first.0) }

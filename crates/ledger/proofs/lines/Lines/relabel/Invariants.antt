@@ -3,5 +3,5 @@ use Rattle.ledger.specs.Classes.{relabelled}
 use Rattle.ledger.proofs.lines.Lines.relabel.Given as goal
 
 -- the lines before the place are relabelled
-abbrev pub invariant-loop-i : goal.invariant-loop-i
-invariant-loop-i l = l.self.all ≡ map (relabelled l.from l.to) (take l.i l.initial.self.all) ++ drop l.i l.initial.self.all
+abbrev pub invariant-loop-line : goal.invariant-loop-line
+invariant-loop-line l = l.line-items ≡ map (relabelled l.from l.to) (take l.line-index l.initial.line-items) ++ drop l.line-index l.initial.line-items

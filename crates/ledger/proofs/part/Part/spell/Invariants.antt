@@ -1,7 +1,7 @@
-use Rattle.std.proofs.Common.{◌≡◌, ℕ, ◌<◌, get_or}
-use Rattle.ledger.proofs.Spelling.{byte_at}
+use Rattle.std.proofs.Common.{◌≡◌, ◌++◌, map, take, drop}
+use Rattle.tables.specs.Words.{letter_of}
 use Rattle.ledger.proofs.part.Part.spell.Given as goal
 
--- the first bytes are written
-abbrev pub invariant-loop-i : goal.invariant-loop-i
-invariant-loop-i l = (k : ℕ) → k < l.i → get_or l.run k 0 ≡ byte_at l.self.size l.self.events k
+-- the events before the place have become letters
+abbrev pub invariant-loop-letter : goal.invariant-loop-letter
+invariant-loop-letter l = l.letters ≡ map letter_of (take l.letter-index l.initial.letters) ++ drop l.letter-index l.initial.letters
