@@ -5,7 +5,10 @@ ghost use Rattle.kinds.specs.Best.{bests};
 
 use crate::fault::Fault;
 use crate::kind::Kind;
-use crate::whole::{fitting, is_entry, sum};
+use crate::whole::{fitting, sum, within};
+
+/// A whole number is an entry from minus this to this.
+const LARGEST_ENTRY: u64 = 100_000;
 
 /// None or a whole number.
 #[derive(Clone, Copy, PartialEq, Eq, Debug)]
@@ -54,7 +57,7 @@ impl Kind for Best {
     }
 
     fn is_entry(self) -> bool {
-        self.0.is_none_or(is_entry)
+        self.0.is_none_or(|z| within(LARGEST_ENTRY, z))
     }
 
     fn cancels(self) -> bool {

@@ -3,7 +3,10 @@ ghost use Rattle.kinds.specs.Count.{counts};
 
 use crate::fault::Fault;
 use crate::kind::Kind;
-use crate::whole::{is_entry, product, sum};
+use crate::whole::{product, sum, within};
+
+/// A whole number is an entry from minus this to this.
+const LARGEST_ENTRY: u64 = 100_000;
 
 /// A whole number.
 #[derive(Clone, Copy, PartialEq, Eq, Debug)]
@@ -33,7 +36,7 @@ impl Kind for Count {
     }
 
     fn is_entry(self) -> bool {
-        is_entry(self.0)
+        within(LARGEST_ENTRY, self.0)
     }
 
     fn cancels(self) -> bool {
@@ -56,7 +59,7 @@ mod tests {
     #[test]
     fn the_largest_sum_fits(rt: HostRuntime) {
         assert_eq!(rt;
-            sum(-3_999_999_999_999_999_999, -1),
+            added(-3_999_999_999_999_999_999, -1),
             Ok(-4_000_000_000_000_000_000)
         );
     }

@@ -1,6 +1,5 @@
 //! Whole numbers as kinds store them: which of them fit, and which are entries.
 ghost use Rattle.std.specs.Prelude.{◌≡◌, ◌+ℤ◌, ◌*ℤ◌};
-ghost use Rattle.kinds.specs.Limits.{largest_entry};
 ghost use Rattle.kinds.specs.Numbers.{checked};
 ghost use Rattle.kinds.specs.Count.{counts, within};
 
@@ -9,14 +8,18 @@ use crate::fault::{Fault, Refusal};
 /// A whole number fits from minus this to this.
 const LARGEST_FIT: u64 = 4_000_000_000_000_000_000;
 
-/// A whole number is an entry from minus this to this.
-const LARGEST_ENTRY: u64 = 100_000;
+/// Whether a whole number is from minus a limit to the limit.
+pub(crate) fn within(limit: u64, z: i64) -> bool
+    ensures { result ≡ within limit z }
+{
+    z.unsigned_abs() <= limit
+}
 
 /// Passes a whole number that fits.
 pub(crate) fn fitting(z: i64) -> Result<i64, Fault>
     ensures { result ≡ checked counts z }
 {
-    if z.unsigned_abs() <= LARGEST_FIT {
+    if within(LARGEST_FIT, z) {
         Ok(z)
     } else {
         Err(Fault::of(Refusal::OutOfRange))
@@ -39,11 +42,4 @@ pub(crate) fn product(a: i64, b: i64) -> Result<i64, Fault>
 {
     let z = a.checked_mul(b).ok_or(Fault::of(Refusal::OutOfRange))?;
     fitting(z)
-}
-
-/// Whether a whole number is an entry.
-pub(crate) fn is_entry(z: i64) -> bool
-    ensures { result ≡ within largest_entry z }
-{
-    z.unsigned_abs() <= LARGEST_ENTRY
 }

@@ -89,7 +89,7 @@ fn perform_request<K: Listed>(
 }
 
 /// Does what a line asks of the book.
-// Beside `serve_line`, and no function over both: what is read, what is left and the run for a chain's table differ, and
+// Beside `serve_line` (and `answer_request` beside `answer_line`), and no function over both: what is read, what is left and the run for a chain's table differ, and
 // each clause of either is about its own. The run, the strip and the table are lent one by one, as a caller has them.
 fn serve_request<K: Listed>(
     book: &mut Book<'_, K>,
