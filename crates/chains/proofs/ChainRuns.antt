@@ -66,7 +66,7 @@ module _ (n : ℕ) (letters : List ℕ) (numbers : List Count) (k : ℕ) where
     abbrev rest : ℕ
     rest = (place - 2 * n) % (n * n)
 
-    step_by_place : number_at counts run place ≡ cond (eqb (get_or letters (rest / n) 0) (letter_of (event + 1))) (number_at counts numbers (n + rest)) (zero_of counts)
+    pub step_by_place : number_at counts run place ≡ cond (eqb (get_or letters (rest / n) 0) (letter_of (event + 1))) (number_at counts numbers (n + rest)) (zero_of counts)
     step_by_place =
         let whole : event * (n * n) + rest ≡ place - 2 * n = div-add-mod' (place - 2 * n) (n * n) in
         let part : rest / n * n + rest % n ≡ rest = div-add-mod' rest n in

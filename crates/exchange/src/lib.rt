@@ -40,11 +40,10 @@ struct Exchange {
     output: BufWriter<Stdout>,
     line: LineBuffer,
     count: u64,
-    service: Service,
 }
 
 impl Exchange {
-    fn new(rt: &HostRuntime, service: Service) -> io::Result<Exchange> {
+    fn new(rt: &HostRuntime) -> io::Result<Exchange> {
         let input = BufReader::new(rt.alloc(), rt.stdin())?;
         let output = BufWriter::new(rt.alloc(), rt.stdout())?;
         Ok(Exchange {
@@ -52,7 +51,6 @@ impl Exchange {
             output,
             line: LineBuffer::new(rt.alloc()),
             count: 0,
-            service,
         })
     }
 
@@ -110,47 +108,47 @@ fn serve<F: FnMut(Option<&[u8]>) -> Reply>(exchange: &mut Exchange, mut answer: 
 fn serve_book<K: Listed>(
     rt: &HostRuntime,
     exchange: &mut Exchange,
+    service: Service,
     events: Events,
 ) -> io::Result<()> {
     let mut shelf = vec![in rt.alloc(); K::zero(); SHELF_NUMBERS]?;
     let mut run = vec![in rt.alloc(); K::zero(); MOST_NUMBERS]?;
-    let mut strip = vec![in rt.alloc(); K::zero(); STRIP_SIZE]?;
-    let mut table = vec![in rt.alloc(); K::zero(); MOST_TABLE]?;
+    let mut strip = [K::zero(); STRIP_SIZE];
+    let mut table = [K::zero(); MOST_TABLE];
     let mut book = Book::open(events, shelf.as_mut_slice());
-    match exchange.service {
+    match service {
         Service::Statements => serve(exchange, |line| {
-            answer_line(&mut book, run.as_mut_slice(), strip.as_mut_slice(), line)
+            answer_line(&mut book, run.as_mut_slice(), &mut strip, line)
         }),
         Service::Requests => serve(exchange, |line| {
-            answer_request(
-                &mut book,
-                run.as_mut_slice(),
-                strip.as_mut_slice(),
-                table.as_mut_slice(),
-                line,
-            )
+            answer_request(&mut book, run.as_mut_slice(), &mut strip, &mut table, line)
         }),
     }
 }
 
 /// Answers that a book is open, and then the lines behind the one that opened it.
-fn open_and_serve(rt: &HostRuntime, exchange: &mut Exchange, opened: Opened) -> io::Result<()> {
+fn open_and_serve(
+    rt: &HostRuntime,
+    exchange: &mut Exchange,
+    service: Service,
+    opened: Opened,
+) -> io::Result<()> {
     exchange.answer(Reply::Open)?;
     match opened.kind {
-        KindName::Count => serve_book::<Count>(rt, exchange, opened.events),
-        KindName::Best => serve_book::<Best>(rt, exchange, opened.events),
+        KindName::Count => serve_book::<Count>(rt, exchange, service, opened.events),
+        KindName::Best => serve_book::<Best>(rt, exchange, service, opened.events),
     }
 }
 
 /// Answers all lines of standard input, each before more input is waited for. No contract can say what is read or written.
 pub fn run(rt: &HostRuntime, service: Service) -> io::Result<()> {
-    let mut exchange = Exchange::new(rt, service)?;
+    let mut exchange = Exchange::new(rt)?;
     for _ in 0..u64::MAX {
         if !exchange.next_line()? {
             break;
         }
         match open_by(exchange.line.text()) {
-            Ok(opened) => open_and_serve(rt, &mut exchange, opened)?,
+            Ok(opened) => open_and_serve(rt, &mut exchange, service, opened)?,
             Err(fault) => exchange.answer(Reply::Refused(fault))?,
         }
     }

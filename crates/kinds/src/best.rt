@@ -19,10 +19,10 @@ impl Best {
     fn of(value: Option<i64>) -> Result<Best, Fault>
         ensures { result ≡ answer bests value }
     {
-        if let Some(z) = value {
-            fitting(z)?;
+        match value {
+            Some(z) => Ok(Best(Some(fitting(z)?))),
+            None => Ok(Best(None)),
         }
-        Ok(Best(value))
     }
 }
 

@@ -23,10 +23,11 @@ impl<'a, K: Kind> Side<'a, K> {
         requires { vector < page.now.vectors }
         ensures { AllEntries K.Kind.numbers starts.now → AllEntries K.Kind.numbers page.now.run.now → result ≡ Ok (K.Kind.numbers.write (start_sum K.Kind.numbers.exact (starts_in K.Kind.numbers starts.now) (half_on K.Kind.numbers page.now self.now) vector)) }
     {
+        let (side, page) = (*self, *page);
         sum_of_products(
-            self.states,
+            side.states,
             |state| number(starts, state),
-            |state| page.number(vector, self.shift + state),
+            |state| page.number(vector, side.shift + state),
         )
     }
 
@@ -44,10 +45,11 @@ impl<'a, K: Kind> Side<'a, K> {
         ensures { Entered K.Kind.numbers page.now self.now → result ≡ Ok (K.Kind.numbers.write (on_side K.Kind.numbers (scaled_step K.Kind.numbers.exact) page.now self.now event vector row)) }
     {
         K::sums_of_entry_products_fit();
+        let (side, page) = (*self, *page);
         let image = sum_of_products(
-            self.states,
-            |state| self.step(event, row, state),
-            |state| page.number(vector, self.shift + state),
+            side.states,
+            |state| side.step(event, row, state),
+            |state| page.number(vector, side.shift + state),
         )?;
         page.scale().multiply(image)
     }
@@ -63,10 +65,11 @@ impl<'a, K: Kind> Side<'a, K> {
         requires coefficient { (p : ℕ) → p < page.now.vectors → F.pre coefficient p }
         ensures { (at : ℕ → ℕ) → Gives K.Kind.numbers (F.post coefficient) page.now.vectors page.now.run.now at → Entered K.Kind.numbers page.now self.now → result ≡ Ok (K.Kind.numbers.write (on_side K.Kind.numbers (combined K.Kind.numbers.exact) page.now self.now (λ q. value K.Kind.numbers page.now.run.now (at q)) row)) }
     {
+        let (side, page) = (*self, *page);
         sum_of_products(
             page.vectors,
             coefficient,
-            |vector| page.number(vector, self.shift + row),
+            |vector| page.number(vector, side.shift + row),
         )
     }
 
@@ -84,8 +87,9 @@ impl<'a, K: Kind> Side<'a, K> {
         ensures { Entered K.Kind.numbers page.now self.now → result ≡ Ok (on_side K.Kind.numbers (step_row_kept K.Kind.numbers) page.now self.now event vector row) }
     {
         K::sums_of_entry_products_fit();
-        let scaled = self.scaled_step(page, event, vector, row)?;
-        let mixed = self.combination(page, |other| page.stepping(event, vector, other), row)?;
+        let page = *page;
+        let scaled = self.scaled_step(&page, event, vector, row)?;
+        let mixed = self.combination(&page, |other| page.stepping(event, vector, other), row)?;
         Ok(scaled.equal(mixed))
     }
 

@@ -5,10 +5,10 @@ ghost use Rattle.tables.specs.Layout.{end_at, step_at, number_at};
 ghost use Rattle.sheets.specs.Layout.{most_vectors, most_width, scale_at, vector_at, stepping_at, ending_at};
 
 use kinds::kind::Kind;
+use std::alloc::AllocError;
 use tables::weighing::number;
 
 /// A table's run, and how many numbers stand before this table's in a vector of the sheet.
-#[derive(Drop)]
 // Its states as a number, and no `Table`: every place in a run is computed from that number.
 pub(crate) struct Side<'a, K> {
     pub(crate) states: usize,
@@ -19,7 +19,6 @@ pub(crate) struct Side<'a, K> {
 }
 
 /// A sheet's run, for so many events, with so many vectors of so many numbers.
-#[derive(Drop)]
 pub(crate) struct Page<'a, K> {
     pub(crate) events: usize,
     pub(crate) width: usize,
@@ -37,6 +36,24 @@ pub(crate) struct Comparison<'a, K> {
     pub(crate) b: Side<'a, K>,
     pub(crate) page: Page<'a, K>,
 }
+
+// Sides and pages are copied, so that a sum reads them once and not at each of its turns. By hand, since `Clone` is not
+// derived where a field is ghost and the numbers' type is a parameter.
+impl<'a, K> Clone for Side<'a, K> {
+    fn clone(&self) -> Result<Side<'a, K>, AllocError> {
+        Ok(*self)
+    }
+}
+
+impl<'a, K> Copy for Side<'a, K> {}
+
+impl<'a, K> Clone for Page<'a, K> {
+    fn clone(&self) -> Result<Page<'a, K>, AllocError> {
+        Ok(*self)
+    }
+}
+
+impl<'a, K> Copy for Page<'a, K> {}
 
 impl<'a, K: Kind> Side<'a, K> {
     /// The end of a state.

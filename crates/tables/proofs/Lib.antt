@@ -9,3 +9,4 @@ pub mod Paths
 pub mod Admitted
 pub mod Weighed
 pub mod EntryRuns
+pub mod Letters

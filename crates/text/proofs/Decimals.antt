@@ -90,7 +90,7 @@ digits_out : (t : Bool) (m n : ℕ) → cond t (Some m) None ≡ Some n → (t �
 digits_out true m n e = (refl, cc)
 digits_out false m n e = let z : ◌≡◌ {A = ℕ} 0 1 = cc in absurd (omega arith)
 
-numeral_law : (s : List ℕ) → IsNumeral s (magnitude_of s)
+pub numeral_law : (s : List ℕ) → IsNumeral s (magnitude_of s)
 numeral_law s = record { prints = prints; reads = reads }
   where
     prints : (n : ℕ) → magnitude_of s ≡ Some n → (s ≡ decimal n) × (n < most_magnitude)
@@ -163,7 +163,7 @@ form (b ∷ c ∷ bs) =
 first_digit : (n : ℕ) → n < most_magnitude → (t : List ℕ) → decimal n ≡ 45 ∷ t → ⊥
 first_digit n h t e = ⊎_elim (λ z. let f = decimal_digit 0 (omega arith) in let g = sym (ap decimal z) ∙ e in let b : 45 ≡ 48 = ap (λ l. get_or l 0 0) (sym g ∙ f) in omega arith) (λ z. let f = first_decimal n (omega arith) (omega arith) in let b : get_or (decimal n) 0 0 ≡ 45 = ap (λ l. get_or l 0 0) e in omega arith) (cases_eq n 0)
 
-reading_minus : (s : List ℕ) → 1 < length s → get_or s 0 0 ≡ 45 → reading_of s ≡ option_and_then negative (magnitude_of (drop 1 s))
+pub reading_minus : (s : List ℕ) → 1 < length s → get_or s 0 0 ≡ 45 → reading_of s ≡ option_and_then negative (magnitude_of (drop 1 s))
 reading_minus [] lt e = absurd (omega arith)
 reading_minus (b ∷ []) lt e = absurd (omega arith)
 reading_minus (b ∷ c ∷ bs) lt e = rw (eq-eqb b 45 e)

@@ -1,20 +1,21 @@
 -- What entering leaves where nothing refuses.
-use Rattle.std.proofs.Common.{◌≡◌, ℕ, ◌+◌, ◌-◌, ◌<◌, ◌≤◌, true, eqb, List, length, None, Ok, sym, ap, ◌∙◌, subst, arith}
+use Rattle.std.proofs.Common.{◌≡◌, ℕ, ◌+◌, ◌-◌, ◌<◌, ◌≤◌, true, eqb, List, length, IfOk, Some, None, Ok, Option, Result, sym, refl, ap, ◌∙◌, subst, arith}
 use Rattle.std.proofs.lemmas.Bool.{eqb-true, ltb-true}
+use Rattle.kinds.specs.declared.fault.Fault.{Fault}
 use Rattle.kinds.specs.declared.fault.Refusal.TheVariants.{StateCount, NumberCount, NotAnEntry, TooManyTables}
-use Rattle.kinds.specs.Faults.{fault, or_refused}
+use Rattle.kinds.specs.Faults.{fault, or_kept, or_refused}
 use Rattle.kinds.specs.Numbers.{Numbers, is_entry, zero_of}
-use Rattle.tables.specs.Shape.{most_states, one_to, table_size}
+use Rattle.tables.specs.Shape.{most_states, one_to, states_answer, table_size}
 use Rattle.tables.specs.Entries.{AllEntries, first_other}
 use Rattle.tables.proofs.Firsts.{first_is_first}
 use Rattle.ledger.specs.declared.ledger.Placed.{Placed}
 use Rattle.ledger.specs.Lines.{Packed, line_of, most_tables, used}
-use Rattle.ledger.specs.Model.{Model, new_line, with_table}
+use Rattle.ledger.specs.Model.{Model, new_line, no_place, with_line, with_table}
 use Rattle.ledger.proofs.Appending.{each_or_last, line_earlier, line_last, used_push, used_within}
 use Rattle.ledger.proofs.Placing.{room_left}
 use Rattle.uses.specs.Holds.{Entered, laid, part, table_at}
-use Rattle.uses.specs.Enter.{TableEntered, enter_answer, enter_fault, enter_ledger, enter_shelf}
-use Rattle.kinds.proofs.Refusing.{passed_test, found_none, answer_passes, answered, renewed}
+use Rattle.uses.specs.Enter.{TableEntered, enter_answer, enter_fault, enter_ledger, enter_shelf, unless_entries}
+use Rattle.kinds.proofs.Refusing.{test_passed, none_found, passed_test, found_none, answer_passes, choice_passes, answered, renewed}
 use Rattle.uses.proofs.Laying.{laid_below, laid_here, length_laid}
 
 module _ {K : Type 0} (m : Model) (shelf : List K) (n : ℕ) (run : List K) (long : length run ≡ table_size n m.events) (room : used m.events m.lines + table_size n m.events ≤ length shelf) where
@@ -76,6 +77,27 @@ module _ {K : Type 0} (N : Numbers K) (m : Model) (room n : ℕ) (run : List K) 
         few = ltb-true (length m.lines) most_tables (passed_test _ (fault TooManyTables) _ c.1).0;
         fits = room_left m.events m.lines n room c.1;
       }
+
+  -- where states and run pass, the place decides
+  pub place_decides : (s size : ℕ) → states_answer n ≡ Ok s → size ≡ table_size s m.events → Ok (tt {0}) ≡ or_refused (unless_entries N run size None) tt → (s ≡ n) × (enter_fault N m room n run ≡ no_place m.events m.lines n room)
+  place_decides s size states-fine is-size run-fine =
+      let a = choice_passes (one_to most_states n) n s (fault StateCount) states-fine in
+      let b = passed_test (eqb (length run) size) (fault NumberCount) _ (answer_passes (unless_entries N run size None) (tt {0}) tt run-fine).0 in
+      let c = found_none (first_other N 1 run) NotAnEntry None b.1 in
+      let long : eqb (length run) (table_size n m.events) ≡ true = ap (λ i. eqb (length run) i) (ap (λ i. table_size i m.events) (sym a.1) ∙ sym is-size) ∙ b.0 in (
+        a.1,
+        test_passed _ (fault StateCount) _ a.0 ∙ test_passed _ (fault NumberCount) _ long ∙ none_found _ NotAnEntry _ c.0,
+      )
+
+-- lines that are kept or have one more are a ledger that is kept or has one table more
+pub ledger_appended : (m : Model) (o : Option Fault) (n : ℕ) → ◌≡◌ {A = Model} (record { events = m.events; lines = or_kept o m.lines (with_line m.events m.lines n); parts = m.parts }) (or_kept o m (with_table m n))
+ledger_appended m None n = refl
+ledger_appended m (Some f) n = refl
+
+-- a test on an answer that comes where nothing refuses
+pub on_answer : {X : Type 0} (P : X → Type 0) (o : Option Fault) (x : X) (r : Result X Fault) → r ≡ or_refused o x → (o ≡ None → P x) → IfOk r P
+on_answer P None x r e h = subst (λ y. IfOk y P) (sym e) (h refl)
+on_answer P (Some f) x r e h = subst (λ y. IfOk y P) (sym e) tt
 
 -- all that an accepted call promises
 pub record Accepted {K : Type 0} (N : Numbers K) (m m' : Model) (shelf shelf' : List K) (n : ℕ) (run : List K) (i : ℕ) : Type 0 where

@@ -1,18 +1,23 @@
 -- Each call leads a use of the book on: accepted exactly when none of its refusals holds, and with its effect then.
 use Rattle.std.proofs.Common.{◌≡◌, ℕ, ◌+◌, true, false, List, length, is_ok, Some, None, Ok, Err, Option, Result, sym, refl, ap, ◌∙◌, arith, MatchResult}
-use Rattle.std.proofs.lemmas.Bool.{eq-eqb, le-leb, lt-ltb}
+use Rattle.std.proofs.lemmas.Bool.{eq-eqb, eqb-true, le-leb, lt-ltb}
 use Rattle.kinds.specs.declared.fault.Fault.{Fault}
-use Rattle.kinds.specs.declared.fault.Refusal.TheVariants.{StateCount, NumberCount, NotAnEntry, NoSuchTable, TooManyTables, ShelfFull}
+use Rattle.kinds.specs.declared.fault.Refusal.TheVariants.{StateCount, NumberCount, NotAnEntry, NoSuchTable, NoSuchPart, TooManyTables, ShelfFull, WordRunLength}
 use Rattle.kinds.specs.Faults.{fault, fault_at, or_kept}
 use Rattle.kinds.specs.Numbers.{Numbers, is_entry}
 use Rattle.kinds.proofs.Refusing.{answer_passes, none_found, passed_test, refusal_refuses, renewed, test_passed}
 use Rattle.tables.specs.Shape.{table_size}
+use Rattle.tables.specs.Words.{longest_word}
 use Rattle.tables.proofs.Admitted.{admits, admitted}
 use Rattle.tables.proofs.Firsts.{all_pass_none}
+use Rattle.ledger.specs.declared.asking.Comparison.{Comparison}
+use Rattle.ledger.specs.Ask.{ask_answer}
 use Rattle.ledger.specs.Lines.{most_tables, used}
 use Rattle.ledger.specs.Model.{Model}
+use Rattle.ledger.specs.Parts.{word_answer, word_fault}
+use Rattle.ledger.specs.Standing.{unless_table}
 use Rattle.uses.specs.declared.answers.Parted.{Parted}
-use Rattle.uses.specs.Calls.{Accepts, Call, Enters, State, Weighs, at, effect_of, enter, join, part, weigh}
+use Rattle.uses.specs.Calls.{Accepts, Call, Enters, State, Weighs, at, ask, effect_of, enter, join, part, weigh, word}
 use Rattle.uses.specs.Enter.{enter_answer, enter_fault, enter_ledger, enter_shelf}
 use Rattle.uses.specs.History.{LeadsOn, done_if_any}
 use Rattle.uses.specs.Holds.{Entered}
@@ -94,3 +99,27 @@ module _ {K : Type 0} (N : Numbers K) (m : Model) (shelf : List K) where
             let fine = admitted m.events w (length strip) t.1 in
             leads_accepted N (at m shelf) (at m shelf) (weigh i w strip) (λ h. record { there = t.0; short = fine.short; events = fine.events; strip_of_sixteen = fine.strip_of_sixteen; in_range = weighed.ranged h e }) refl
     weigh_leads (Err f) weighed = leads_refused N (at m shelf) (at m shelf) (weigh i w strip) (λ h e. (weighed.ranged h (weighs_none e)).0 e.in_range) refl
+
+  -- ---- word
+  pub word_leads : (p : ℕ) (run : List ℕ) (r : Result ℕ Fault) → r ≡ word_answer m.parts p run → LeadsOn N (at m shelf) (word p run) (is_ok r) (at m shelf)
+  word_leads p run (Ok n) answer =
+      let none = (answer_passes (word_fault m.parts p (length run)) _ n answer).0 in
+      let x = passed_test _ (fault NoSuchPart) _ none in
+      leads_accepted N (at m shelf) (at m shelf) (word p run) (λ _. (x.0, eqb-true (length run) longest_word (passed_test _ (fault WordRunLength) None x.1).0)) refl
+  word_leads p run (Err f) answer =
+      let some = refusal_refuses (word_fault m.parts p (length run)) _ f answer in
+      leads_refused N (at m shelf) (at m shelf) (word p run)
+      (λ _ e. let no = sym (test_passed _ (fault NoSuchPart) _ e.0 ∙ test_passed _ (fault WordRunLength) None (eq-eqb (length run) longest_word e.1)) ∙ some in let z : ◌≡◌ {A = ℕ} 0 1 = cc in omega arith)
+      refl
+
+  -- ---- ask
+  pub ask_leads : (a b : ℕ) (r : Result Comparison Fault) → r ≡ ask_answer m.lines m.parts a b → LeadsOn N (at m shelf) (ask a b) (is_ok r) (at m shelf)
+  ask_leads a b (Ok x) answer =
+      let none = (answer_passes (unless_table m.lines a 1 (unless_table m.lines b 2 None)) _ x answer).0 in
+      let y = passed_test _ (fault_at NoSuchTable 1) _ none in
+      leads_accepted N (at m shelf) (at m shelf) (ask a b) (λ _. (y.0, (passed_test _ (fault_at NoSuchTable 2) None y.1).0)) refl
+  ask_leads a b (Err f) answer =
+      let some = refusal_refuses (unless_table m.lines a 1 (unless_table m.lines b 2 None)) _ f answer in
+      leads_refused N (at m shelf) (at m shelf) (ask a b)
+      (λ _ e. let no = sym (test_passed _ (fault_at NoSuchTable 1) _ e.0 ∙ test_passed _ (fault_at NoSuchTable 2) None e.1) ∙ some in let z : ◌≡◌ {A = ℕ} 0 1 = cc in omega arith)
+      refl

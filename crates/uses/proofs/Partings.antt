@@ -15,11 +15,11 @@ use Rattle.tables.specs.Words.{events_of}
 use Rattle.tables.proofs.Admitted.{admits, admitted, word_admits}
 use Rattle.tables.proofs.Ranges.{path_is_weight}
 use Rattle.ledger.specs.Model.{Model}
-use Rattle.ledger.specs.Standing.{Pairs, TwoTables}
+use Rattle.ledger.specs.Standing.{Pairs, TwoTables, unless_two_tables}
 use Rattle.ledger.specs.declared.ledger.Pair.{Pair}
 use Rattle.ledger.specs.Keep.{keep_answer, keep_fault}
 use Rattle.ledger.specs.Parts.{most_parts, unless_full}
-use Rattle.ledger.proofs.Keeping.{keep_room, pair_two, two_pass, two_passed}
+use Rattle.ledger.proofs.Keeping.{keep_room, not_two, pair_two, two_pass, two_passed, two_refused}
 use Rattle.uses.specs.declared.answers.Parted.{Parted}
 use Rattle.uses.specs.declared.answers.Weights.{Weights}
 use Rattle.uses.specs.Holds.{Entered, Table, table_at}
@@ -112,6 +112,15 @@ module _ {K : Type 0} (N : Numbers K) (m : Model) (shelf : List K) (a b : ℕ) (
   abbrev B : Table K
   B = table_at m shelf b
 
+  -- the two are no different tables of the book
+  pub apart_not_two : (f : Fault) → unless_two_tables m.lines a b None ≡ Some f → Apart N m shelf a b word strip (Err f)
+  apart_not_two f e = record {
+    early = λ g h. let s = two_refused m.lines a b f e (weigh_fault m.events word strip) in cc;
+    answer = λ _. sym (answered_some _ _ f (two_refused m.lines a b f e _));
+    told = λ _ t. not_two m.lines a b f e t.two;
+    passed = tt;
+  }
+
   module _ (s : Pair) (stand : Pairs m.events m.lines a b (Ok s)) where
     two : TwoTables m.lines a b
     two = pair_two k m.lines a b s stand
@@ -123,11 +132,11 @@ module _ {K : Type 0} (N : Numbers K) (m : Model) (shelf : List K) (a b : ℕ) (
     entries_b = standing_entries N m shelf b s.second stand.1
 
     -- a weight of the first table, and one of the second, for a strip as long
-    of_first : (n : ℕ) → n ≡ strip → (r : Result K Fault) → WeighedAt N (stood shelf s.first) k 1 word n r → WeighedAt N A k 1 word strip r
-    of_first n long r w = weighed_in N m shelf a s.first stand.0 1 word n strip long r w
+    pub of_first : (l : ℕ) → l ≡ k → (n : ℕ) → n ≡ strip → (r : Result K Fault) → WeighedAt N (stood shelf s.first) l 1 word n r → WeighedAt N A k 1 word strip r
+    of_first l is n long r w = weighed_in N m shelf a s.first stand.0 l is 1 word n strip long r w
 
-    of_second : (n : ℕ) → n ≡ strip → (r : Result K Fault) → WeighedAt N (stood shelf s.second) k 2 word n r → WeighedAt N B k 2 word strip r
-    of_second n long r w = weighed_in N m shelf b s.second stand.1 2 word n strip long r w
+    pub of_second : (l : ℕ) → l ≡ k → (n : ℕ) → n ≡ strip → (r : Result K Fault) → WeighedAt N (stood shelf s.second) l 2 word n r → WeighedAt N B k 2 word strip r
+    of_second l is n long r w = weighed_in N m shelf b s.second stand.1 l is 2 word n strip long r w
 
     -- what is asked behind the tables
     behind : part_refusal N m shelf a b word strip ≡ weigh_fault k word strip
@@ -142,7 +151,7 @@ module _ {K : Type 0} (N : Numbers K) (m : Model) (shelf : List K) (a b : ℕ) (
     none_early t = admits k word strip (record { short = t.short; events = t.events; strip_of_sixteen = t.strip_of_sixteen })
 
     -- the first weight is refused
-    apart_first : (f : Fault) → WeighedAt N A k 1 word strip (Err f) → Apart N m shelf a b word strip (Err f)
+    pub apart_first : (f : Fault) → WeighedAt N A k 1 word strip (Err f) → Apart N m shelf a b word strip (Err f)
     apart_first f w = by_case (weigh_fault k word strip) refl
       where
         refusal : {g h : Fault} → ◌≡◌ {A = Result K Fault} (Err g) (Err h) → g ≡ h
@@ -174,7 +183,7 @@ module _ {K : Type 0} (N : Numbers K) (m : Model) (shelf : List K) (a b : ℕ) (
       late_only r g h = let no = sym (behind ∙ none) ∙ h in let z : ◌≡◌ {A = ℕ} 0 1 = cc in absurd (omega arith)
 
       -- the second weight is refused
-      apart_second : (f : Fault) → WeighedAt N B k 2 word strip (Err f) → Apart N m shelf a b word strip (Err f)
+      pub apart_second : (f : Fault) → WeighedAt N B k 2 word strip (Err f) → Apart N m shelf a b word strip (Err f)
       apart_second f w = record {
         early = late_only (Err f);
         answer = λ e. sym (rest none ∙ then_ok (path_in N m shelf a b word strip a 1) _ _ (got_first e).by_path ∙ then_err (path_in N m shelf a b word strip b 2) _ f (withheld N B k 2 word strip none (entries_b e) f w).by_path);
@@ -210,7 +219,7 @@ module _ {K : Type 0} (N : Numbers K) (m : Model) (shelf : List K) (a b : ℕ) (
               test stored-x stored-y ∙ ap (λ v. N.same v (N.read y)) read-x ∙ ap (N.same (weight_in N m shelf a word)) read-y
 
           -- the weights are equal
-          apart_equal : t ≡ true → Apart N m shelf a b word strip (Err (fault EqualWeights))
+          pub apart_equal : t ≡ true → Apart N m shelf a b word strip (Err (fault EqualWeights))
           apart_equal yes' = record {
             early = late_only _;
             answer = λ e. sym (both e ∙ decided true (sym (test_is e) ∙ yes'));
@@ -219,7 +228,7 @@ module _ {K : Type 0} (N : Numbers K) (m : Model) (shelf : List K) (a b : ℕ) (
           }
 
           -- they differ
-          apart_differ : t ≡ false → Apart N m shelf a b word strip (Ok (record { first = x; second = y }))
+          pub apart_differ : t ≡ false → Apart N m shelf a b word strip (Ok (record { first = x; second = y }))
           apart_differ no' = record {
             early = late_only _;
             answer = λ e.
@@ -238,18 +247,18 @@ module _ {K : Type 0} (N : Numbers K) (m : Model) (shelf : List K) (a b : ℕ) (
     -- the weights that are answered where the two tables stand, each on a strip as long
     module _ (i : ℕ) (long : i ≡ strip) where
       pub first_refused : (f : Fault) → WeighedAt N (stood shelf s.first) k 1 word i (Err f) → Apart N m shelf a b word strip (Err f)
-      first_refused f w = apart_first f (of_first i long (Err f) w)
+      first_refused f w = apart_first f (of_first k refl i long (Err f) w)
 
       module _ (x : K) (w : WeighedAt N (stood shelf s.first) k 1 word i (Ok x)) (j : ℕ) (as_long : j ≡ strip) where
         pub second_refused : (f : Fault) → WeighedAt N (stood shelf s.second) k 2 word j (Err f) → Apart N m shelf a b word strip (Err f)
-        second_refused f v = apart_second x (of_first i long (Ok x) w) f (of_second j as_long (Err f) v)
+        second_refused f v = apart_second x (of_first k refl i long (Ok x) w) f (of_second k refl j as_long (Err f) v)
 
         module _ (y : K) (v : WeighedAt N (stood shelf s.second) k 2 word j (Ok y)) (t : Bool) (test : N.stored x ≡ true → N.stored y ≡ true → t ≡ N.same (N.read x) (N.read y)) where
           pub equal_weights : t ≡ true → Apart N m shelf a b word strip (Err (fault EqualWeights))
-          equal_weights = apart_equal x (of_first i long (Ok x) w) y (of_second j as_long (Ok y) v) t test
+          equal_weights = apart_equal x (of_first k refl i long (Ok x) w) y (of_second k refl j as_long (Ok y) v) t test
 
           pub weights_differ : t ≡ false → Apart N m shelf a b word strip (Ok (record { first = x; second = y }))
-          weights_differ = apart_differ x (of_first i long (Ok x) w) y (of_second j as_long (Ok y) v) t test
+          weights_differ = apart_differ x (of_first k refl i long (Ok x) w) y (of_second k refl j as_long (Ok y) v) t test
 
   -- ---- keeping the word
   -- no part is kept, since the word does not tell the tables apart

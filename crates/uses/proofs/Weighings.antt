@@ -111,16 +111,16 @@ module _ {K : Type 0} (N : Numbers K) (m : Model) (shelf : List K) (i : ℕ) (s 
   pub standing_entries : Entered N m shelf → AllEntries N (table_at m shelf i).run
   standing_entries e = let h = and_parts (leb 1 i) (leb i (length m.lines)) stands.there in e.entries i (leb-true 1 i h.0) (leb-true i (length m.lines) h.1)
 
-  -- a word that is weighed in it, on a strip as long, is weighed in that table
-  pub weighed_in : (p : ℕ) (word : List ℕ) (n strip : ℕ) → n ≡ strip → (r : Result K Fault) → WeighedAt N (stood shelf s) m.events p word n r → WeighedAt N (table_at m shelf i) m.events p word strip r
-  weighed_in p word n strip long r there =
+  -- a word over as many events that is weighed in it, on a strip as long, is weighed in that table
+  pub weighed_in : (k : ℕ) → k ≡ m.events → (p : ℕ) (word : List ℕ) (n strip : ℕ) → n ≡ strip → (r : Result K Fault) → WeighedAt N (stood shelf s) k p word n r → WeighedAt N (table_at m shelf i) m.events p word strip r
+  weighed_in k is p word n strip long r there =
       subst (λ t. WeighedAt N t m.events p word strip r) standing_is
-      (subst (λ l. WeighedAt N (stood shelf s) m.events p word l r) long there)
+      (subst (λ l. WeighedAt N (stood shelf s) l p word strip r) is (subst (λ l. WeighedAt N (stood shelf s) k p word l r) long there))
 
   -- and in the book
   pub weighed_there : (word : List ℕ) (n strip : ℕ) → n ≡ strip → (r : Result K Fault) → WeighedAt N (stood shelf s) m.events 1 word n r → Weighed N m shelf i word strip r
   weighed_there word n strip long r there =
-      let here : WeighedAt N (table_at m shelf i) m.events 1 word strip r = weighed_in 1 word n strip long r there in
+      let here : WeighedAt N (table_at m shelf i) m.events 1 word strip r = weighed_in m.events refl 1 word n strip long r there in
       let after : weigh_refusal m i word strip ≡ weigh_fault m.events word strip = test_passed _ (fault_at NoSuchTable 1) _ stands.there in
       record {
         early = λ f e. here.early f (sym after ∙ e);
